@@ -1,0 +1,11 @@
+pub mod Answers
+pub mod Places
+pub mod Blocks
+pub mod Channels
+pub mod Groups
+pub mod RoundTrip
+pub mod Logs
+pub mod Opens
+pub mod Accepted
+pub mod Demand3
+pub mod Postings

@@ -1,0 +1,59 @@
+-- The worked examples agree with the definitions, by computation.
+-- Assumes nothing.
+use Prim.Native.Nat.{ℕ}
+use mathlib.Core.Path.{_≡_, refl, ap}
+use mathlib.Core.List.{List, [], _∷_}
+use mathlib.Core.Option.{none, some}
+use native.Mathlib.Omega.{arith}
+use lib.ListN.{length}
+use lib.Ieee.{ofBits, ofInt, add, mul}
+use Rattle.spec.specs.Bytes.{field}
+use Rattle.spec.specs.Answer.{Answer, refused, accepted, _>>=_, require, present}
+use Rattle.spec.specs.Block.{opening, openBlock, bodyAt, readHd, writeHd, readDg, writeDg, readCg, writeCg, readCn, writeCn}
+use Rattle.spec.specs.Reading.{Group, Reading}
+use Rattle.spec.specs.Records.{inOrder, byID, logFrom, logOf}
+use Rattle.spec.specs.Found.{readingOf}
+use Rattle.spec.specs.Walk.{fieldsPass, formulaPasses, conversionAt, channelAt, channelList, groupList, dataGroupList, fileFrom, identPasses, walk, reads}
+use Rattle.spec.specs.Canonical.{channelLength, copyLength, channelBytes, channelsBytes, groupBytes, groupsBytes, canonicalCopy}
+use Rattle.spec.specs.Sample.{pattern, storedAs, storedSample, signedOf, rawValue, partOf, numberOf, linear, converted, physicalValue}
+use Rattle.spec.specs.Call.{checkOutcome, copying, copyOutcome, asking, sampling, rawOutcome, partOutcome, physicalOutcome, programOutput}
+use Rattle.spec.specs.Posting.{Agree, marked, MarkedPostingsAgree, checks, others, OwnPostingsAgree, AbsentIsNotEmpty, MovedRecordIsSeen}
+
+pub marked-postings-agree : MarkedPostingsAgree
+unfolding marked field _>>=_ require present opening openBlock bodyAt readHd writeHd readDg writeDg readCg writeCg readCn writeCn inOrder byID logFrom logOf readingOf fieldsPass formulaPasses conversionAt channelAt channelList groupList dataGroupList fileFrom identPasses walk reads channelLength copyLength channelBytes channelsBytes groupBytes groupsBytes canonicalCopy pattern storedAs storedSample signedOf rawValue checkOutcome copying copyOutcome asking sampling rawOutcome
+marked-postings-agree = refl
+
+own-checks : Agree checks
+unfolding checks field _>>=_ require present opening openBlock bodyAt readHd writeHd readDg writeDg readCg writeCg readCn writeCn inOrder byID logFrom logOf readingOf fieldsPass formulaPasses conversionAt channelAt channelList groupList dataGroupList fileFrom identPasses walk reads channelLength copyLength channelBytes channelsBytes groupBytes groupsBytes canonicalCopy pattern storedAs storedSample signedOf rawValue checkOutcome copying copyOutcome asking sampling rawOutcome
+own-checks = refl
+
+own-others : Agree others
+unfolding others field _>>=_ require present opening openBlock bodyAt readHd writeHd readDg writeDg readCg writeCg readCn writeCn inOrder byID logFrom logOf readingOf fieldsPass formulaPasses conversionAt channelAt channelList groupList dataGroupList fileFrom identPasses walk reads channelLength copyLength channelBytes channelsBytes groupBytes groupsBytes canonicalCopy pattern storedAs storedSample signedOf rawValue checkOutcome copying copyOutcome asking sampling rawOutcome partOf numberOf linear converted physicalValue partOutcome physicalOutcome programOutput ofBits ofInt add mul
+own-others = refl
+
+pub own-postings-agree : OwnPostingsAgree
+own-postings-agree = (own-checks, own-others)
+
+-- ---- readings that differ
+
+-- 1 where there is a comment, 0 where there is none
+commentSeen : Answer Reading → ℕ
+commentSeen (refused n p) = 2
+commentSeen (accepted r) = elim (r .comment) [ none ↦ 0 | some bytes ↦ 1 ]
+
+pub absent-is-not-empty : AbsentIsNotEmpty
+unfolding commentSeen field _>>=_ require opening openBlock bodyAt readHd readingOf dataGroupList fileFrom identPasses walk reads checkOutcome
+absent-is-not-empty = (refl, refl, λ e. let z : _≡_ {A = ℕ} 0 1 = ap commentSeen e in absurd (omega arith))
+
+-- how many records the first group has
+firstRecords : List Group → ℕ
+firstRecords [] = 0
+firstRecords (g ∷ gs) = length (g .records)
+
+recordsSeen : Answer Reading → ℕ
+recordsSeen (refused n p) = 0
+recordsSeen (accepted r) = firstRecords (r .groups)
+
+pub moved-record-is-seen : MovedRecordIsSeen
+unfolding recordsSeen firstRecords field _>>=_ require opening openBlock bodyAt readHd readDg readCg byID logFrom logOf readingOf channelList groupList dataGroupList fileFrom identPasses walk reads checkOutcome
+moved-record-is-seen = (refl, refl, λ e. let z : _≡_ {A = ℕ} 2 1 = ap recordsSeen e in absurd (omega arith))

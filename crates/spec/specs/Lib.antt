@@ -1,0 +1,13 @@
+pub mod Bytes
+pub mod Answer
+pub mod Block
+pub mod Reading
+pub mod Records
+pub mod Found
+pub mod Walk
+pub mod Canonical
+pub mod Sample
+pub mod Call
+pub mod WellFormed
+pub mod Demand3
+pub mod Posting

@@ -1,0 +1,455 @@
+-- Worked examples: images built byte by byte, and what each call gives for them. Document 01, Postings to agree with; docs/RULES.md, 10.
+-- Every example of the first table is marked in document 01. The second table has examples of our own, so that each refusal and each kind of sample has one.
+-- Assumes nothing.
+use Prim.Native.Nat.{ℕ, zero, suc, _+_, _%_}
+use mathlib.Core.Path.{_≡_}
+use mathlib.Core.Bool.{Bool, true, false}
+use mathlib.Core.List.{List, [], _∷_, _++_, map}
+use mathlib.Core.Option.{Option, none, some}
+use lib.ListN.{length, replicate}
+use lib.IntN.{ℤ, pos, negsuc}
+use lib.Ieee.{Float, nan, inf, fin}
+use Rattle.spec.specs.Bytes.{bytesOf, join}
+use Rattle.spec.specs.Answer.{Answer, accepted, mapAnswer}
+use Rattle.spec.specs.Reading.{Group, Reading}
+use Rattle.spec.specs.Walk.{reads}
+use Rattle.spec.specs.Sample.{Raw, natural, integer, float32, float64, bytesAt}
+use Rattle.spec.specs.Call.{Outcome, CopyOutcome, checkOutcome, copyOutcome, rawOutcome, partOutcome, physicalOutcome, programOutput}
+
+-- ---- what an example says
+
+pub data Posting : Type 0 where
+  checked : List ℕ → ℕ → ℕ → Posting  -- image; number and place of check
+  recorded : List ℕ → List (List (List ℕ)) → Posting  -- image; the records of each group of its reading
+  copies : List ℕ → List ℕ → CopyOutcome → Posting  -- image, output memory; what copy gives and leaves
+  sampled : List ℕ → Outcome Raw → Posting  -- image; its sample 0 of channel 0 of group 0
+  asked : List ℕ → ℕ → ℕ → ℕ → ℕ → ℕ → Posting  -- image, group, channel, record; number and place of sample
+  parted : List ℕ → List ℕ → Posting  -- image; the part that is its sample 0, 0, 0
+  converts : List ℕ → Outcome Float → Posting  -- image; the physical value of its sample 0, 0, 0
+  prints : List ℕ → List ℕ → Posting  -- standard input, standard output of the program
+
+abbrev pub recordsRead : Reading → List (List (List ℕ))
+recordsRead r = map (λ (g : Group). g .records) (r .groups)
+
+pub data Result : Type 0 where
+  numbersResult : ℕ → ℕ → Result
+  recordsResult : Answer (List (List (List ℕ))) → Result
+  copyResult : CopyOutcome → Result
+  rawResult : Outcome Raw → Result
+  floatResult : Outcome Float → Result
+  bytesResult : List ℕ → Result
+
+-- what the definitions give
+abbrev pub given : Posting → Result
+given (checked image number place) = numbersResult (checkOutcome image .number) (checkOutcome image .place)
+given (recorded image rows) = recordsResult (mapAnswer recordsRead (reads image))
+given (copies image memory outcome) = copyResult (copyOutcome image memory)
+given (sampled image outcome) = rawResult (rawOutcome image 0 0 0)
+given (asked image group channel row number place) = numbersResult (rawOutcome image group channel row .number) (rawOutcome image group channel row .place)
+given (parted image part) = bytesResult (partOutcome image 0 0 0)
+given (converts image outcome) = floatResult (physicalOutcome image 0 0 0)
+given (prints input output) = bytesResult (programOutput input)
+
+-- what the example says
+abbrev pub expected : Posting → Result
+expected (checked image number place) = numbersResult number place
+expected (recorded image rows) = recordsResult (accepted rows)
+expected (copies image memory outcome) = copyResult outcome
+expected (sampled image outcome) = rawResult outcome
+expected (asked image group channel row number place) = numbersResult number place
+expected (parted image part) = bytesResult part
+expected (converts image outcome) = floatResult outcome
+expected (prints input output) = bytesResult output
+
+-- every example of a table agrees with the definitions
+abbrev pub Agree : List Posting → Type 0
+Agree table = map given table ≡ map expected table
+
+abbrev pub success : {A : Type 0} → A → Outcome A
+success a = record { number = 0; place = 0; value = some a }
+
+abbrev pub refusal : {A : Type 0} → ℕ → ℕ → Outcome A
+refusal number place = record { number = number; place = place; value = none }
+
+-- ---- blocks
+
+-- n bytes that count up from x, so that fields differ
+abbrev pub counting : ℕ → ℕ → List ℕ
+counting x zero = []
+counting x (suc n) = x % 256 ∷ counting (x + 1) n
+
+abbrev pub zeros : ℕ → List ℕ
+zeros n = replicate n 0
+
+abbrev pub mdf : List ℕ
+mdf = 77 ∷ 68 ∷ 70 ∷ 32 ∷ 32 ∷ 32 ∷ 32 ∷ 32 ∷ []
+
+-- identifier, byte order, float format, version
+abbrev pub idBlock : List ℕ → ℕ → ℕ → ℕ → List ℕ
+idBlock name order floats version = join (name ∷ counting 1 16 ∷ bytesOf 2 order ∷ bytesOf 2 floats ∷ bytesOf 2 version ∷ counting 40 34 ∷ [])
+
+-- first DG, comment, program, DG count
+abbrev pub hdBlock : ℕ → ℕ → ℕ → ℕ → List ℕ
+hdBlock first comment program count =
+    join ((72 ∷ 68 ∷ []) ∷ bytesOf 2 164 ∷ bytesOf 4 first ∷ bytesOf 4 comment ∷ bytesOf 4 program ∷ bytesOf 2 count ∷ counting 100 146 ∷ [])
+
+-- next, first CG, trigger, data, CG count, mode
+abbrev pub dgBlock : ℕ → ℕ → ℕ → ℕ → ℕ → ℕ → List ℕ
+dgBlock next first trigger records count mode =
+    join ((68 ∷ 71 ∷ []) ∷ bytesOf 2 28 ∷ bytesOf 4 next ∷ bytesOf 4 first ∷ bytesOf 4 trigger ∷ bytesOf 4 records ∷ bytesOf 2 count ∷ bytesOf 2 mode ∷ zeros 4 ∷ [])
+
+-- next, first CN, comment, record ID, CN count, record size, record count, sample reduction
+abbrev pub cgBlock : ℕ → ℕ → ℕ → ℕ → ℕ → ℕ → ℕ → ℕ → List ℕ
+cgBlock next first comment recordID count size records reduction =
+    join ((67 ∷ 71 ∷ []) ∷ bytesOf 2 30 ∷ bytesOf 4 next ∷ bytesOf 4 first ∷ bytesOf 4 comment ∷ bytesOf 2 recordID ∷ bytesOf 2 count ∷ bytesOf 2 size ∷ bytesOf 4 records ∷ bytesOf 4 reduction ∷ [])
+
+-- links: CC, CE, CD, comment; type, start bit, bits, data type; last: long name, display name, added byte offset
+abbrev pub cnBlock : List ℕ → ℕ → ℕ → ℕ → ℕ → List ℕ → List ℕ
+cnBlock links type start bits dataType last =
+    join
+    ((67 ∷ 78 ∷ [])
+    ∷ bytesOf 2 228
+    ∷ zeros 4
+    ∷ links
+    ∷ bytesOf 2 type
+    ∷ counting 3 160
+    ∷ bytesOf 2 start
+    ∷ bytesOf 2 bits
+    ∷ bytesOf 2 dataType
+    ∷ counting 5 26
+    ∷ last
+    ∷ [])
+
+-- a channel without links
+abbrev pub signal : ℕ → ℕ → ℕ → List ℕ
+signal start bits dataType = cnBlock (zeros 16) 0 start bits dataType (zeros 10)
+
+abbrev pub links4 : ℕ → ℕ → ℕ → ℕ → List ℕ
+links4 a b c d = join (bytesOf 4 a ∷ bytesOf 4 b ∷ bytesOf 4 c ∷ bytesOf 4 d ∷ [])
+
+-- two characters, and a body
+abbrev pub small : ℕ → ℕ → List ℕ → List ℕ
+small first second body = join ((first ∷ second ∷ []) ∷ bytesOf 2 (4 + length body) ∷ body ∷ [])
+
+abbrev pub text : List ℕ → List ℕ
+text body = small 84 88 body
+
+-- formula, and what follows it
+abbrev pub conversion : ℕ → List ℕ → List ℕ
+conversion formula more = small 67 67 (join (counting 7 38 ∷ bytesOf 2 formula ∷ more ∷ []))
+
+-- ---- images
+
+abbrev pub id300 : List ℕ
+id300 = idBlock mdf 0 0 300
+
+-- no data group
+abbrev pub plain300 : List ℕ
+plain300 = id300 ++ hdBlock 0 0 0 0
+
+abbrev pub plain320 : List ℕ
+plain320 = idBlock mdf 0 0 320 ++ hdBlock 0 0 0 0
+
+abbrev pub copy320 : List ℕ
+copy320 =
+    join (idBlock mdf 0 0 320 ∷ (72 ∷ 68 ∷ []) ∷ bytesOf 2 208 ∷ zeros 12 ∷ bytesOf 2 0 ∷ counting 100 146 ∷ zeros 44 ∷ [])
+
+-- DG at 228, CG at 256 and 286, CN of the first at 316, data at 544. The three counts that are not read are wrong
+abbrev pub twoGroups : ℕ → List ℕ → List ℕ
+twoGroups mode bytes =
+    join
+    (id300
+    ∷ hdBlock 228 0 0 9
+    ∷ dgBlock 0 256 0 544 7 mode
+    ∷ cgBlock 286 316 0 1 9 2 2 0
+    ∷ cgBlock 0 0 0 2 9 1 1 0
+    ∷ signal 0 16 0
+    ∷ bytes
+    ∷ [])
+
+abbrev pub mode1 : List ℕ
+mode1 = twoGroups 1 (1 ∷ 0xAA ∷ 0xBB ∷ 2 ∷ 0xCC ∷ 1 ∷ 0xDD ∷ 0xEE ∷ [])
+
+abbrev pub mode2 : List ℕ
+mode2 = twoGroups 2 (1 ∷ 0xAA ∷ 0xBB ∷ 1 ∷ 2 ∷ 0xCC ∷ 2 ∷ 1 ∷ 0xDD ∷ 0xEE ∷ 1 ∷ [])
+
+abbrev pub twoGroupsRead : List (List (List ℕ))
+twoGroupsRead = ((0xAA ∷ 0xBB ∷ []) ∷ (0xDD ∷ 0xEE ∷ []) ∷ []) ∷ ((0xCC ∷ []) ∷ []) ∷ []
+
+-- DG 228, CG 256, CN 286, records 514, DG 518, CG 546, record 576, length 577
+abbrev pub twoGroupsCopy : List ℕ
+twoGroupsCopy =
+    join
+    (id300
+    ∷ hdBlock 228 0 0 2
+    ∷ dgBlock 518 256 0 514 1 0
+    ∷ cgBlock 0 286 0 0 1 2 2 0
+    ∷ signal 0 16 0
+    ∷ (0xAA ∷ 0xBB ∷ 0xDD ∷ 0xEE ∷ [])
+    ∷ dgBlock 0 546 0 576 1 0
+    ∷ cgBlock 0 0 0 0 0 1 1 0
+    ∷ (0xCC ∷ [])
+    ∷ [])
+
+-- one group, mode 0: DG at 228, CG at 256, this CN at 286, more from 514 on, where the data link points
+abbrev pub oneGroup : ℕ → ℕ → List ℕ → List ℕ → List ℕ
+oneGroup size records cn more =
+    join (id300 ∷ hdBlock 228 0 0 1 ∷ dgBlock 0 256 0 514 1 0 ∷ cgBlock 0 286 0 0 1 size records 0 ∷ cn ∷ more ∷ [])
+
+-- a record in which the channel has this start, these bits and this data type
+abbrev pub oneRecord : ℕ → ℕ → ℕ → ℕ → List ℕ → List ℕ
+oneRecord size start bits dataType bytes = oneGroup size 1 (signal start bits dataType) bytes
+
+-- an output memory
+abbrev pub room : ℕ → List ℕ
+room n = replicate n 0x5A
+
+-- ---- the marked examples
+
+unfoldable pub marked : List Posting
+marked =
+    checked [] 2 0
+    ∷ checked (counting 77 63) 2 0
+    ∷ checked (mdf ++ zeros 55) 2 0
+    ∷ copies plain300 (room 230) (record { given = success 228; memory = plain300 ++ room 2 })
+    ∷ copies plain320 (room 272) (record { given = success 272; memory = copy320 })
+    ∷ sampled (oneRecord 2 4 8 0 (0x34 ∷ 0x12 ∷ [])) (success (natural 0x23))
+    ∷ sampled (oneRecord 2 4 8 9 (0x34 ∷ 0x12 ∷ [])) (success (natural 0x41))
+    ∷ sampled (oneRecord 1 0 4 1 (0b01011000 ∷ [])) (success (integer (negsuc 7)))
+    ∷ sampled (oneRecord 1 0 4 1 (0b10100111 ∷ [])) (success (integer (pos 7)))
+    ∷ sampled (oneRecord 1 3 1 1 (0b00001000 ∷ [])) (success (integer (negsuc 0)))
+    ∷ recorded mode1 twoGroupsRead
+    ∷ recorded mode2 twoGroupsRead
+    ∷ copies mode1 (room 577) (record { given = success 577; memory = twoGroupsCopy })
+    ∷ copies mode2 (room 600) (record { given = success 577; memory = twoGroupsCopy ++ room 23 })
+    ∷ copies mode1 (room 576) (record { given = refusal 13 577; memory = room 576 })
+    ∷ sampled (oneRecord 15 57 63 0 (zeros 7 ++ (1 ∷ 0 ∷ 0 ∷ 0 ∷ 0 ∷ 0 ∷ 0 ∷ 0x80 ∷ []))) (success (natural 0x4000000000000000))
+    ∷ sampled (oneRecord 16 57 64 0 (zeros 16)) (refusal 15 476)
+    ∷ []
+
+-- proved in proofs/Postings.antt
+abbrev pub MarkedPostingsAgree : Type 0
+MarkedPostingsAgree = Agree marked
+
+-- ---- examples of our own
+
+-- a header alone
+abbrev pub header : List ℕ → List ℕ
+header hd = id300 ++ hd
+
+-- one data group at 228, and more from 256 on
+abbrev pub oneDataGroup : List ℕ → List ℕ → List ℕ
+oneDataGroup dg more = join (id300 ∷ hdBlock 228 0 0 1 ∷ dg ∷ more ∷ [])
+
+-- one channel group at 256, and more from 286 on; the data link points to 514
+abbrev pub oneChannelGroup : ℕ → List ℕ → List ℕ → List ℕ
+oneChannelGroup mode cg more = oneDataGroup (dgBlock 0 256 0 514 1 mode) (cg ++ more)
+
+-- one channel at 286, in a group of record size 2 without records, and more from 514 on
+abbrev pub oneChannel : List ℕ → List ℕ → List ℕ
+oneChannel cn more = oneGroup 2 0 cn more
+
+-- every body there is, shared and in another order than the copy's
+abbrev pub everything : List ℕ
+everything =
+    join
+    (id300
+    ∷ hdBlock 559 228 232 1
+    ∷ text []
+    ∷ small 80 82 (1 ∷ 2 ∷ 3 ∷ [])
+    ∷ small 67 69 (4 ∷ 5 ∷ [])
+    ∷ conversion 65535 (0 ∷ 0 ∷ [])
+    ∷ text (97 ∷ 98 ∷ [])
+    ∷ cnBlock (links4 245 239 0 291) 1 0 8 0 (join (bytesOf 4 291 ∷ bytesOf 4 228 ∷ bytesOf 2 0 ∷ []))
+    ∷ cgBlock 0 297 291 200 1 1 2 0
+    ∷ (200 ∷ 0x11 ∷ 200 ∷ 0x22 ∷ [])
+    ∷ dgBlock 0 525 0 555 1 1
+    ∷ [])
+
+abbrev pub everythingCopy : List ℕ
+everythingCopy =
+    join
+    (id300
+    ∷ hdBlock 239 228 232 1
+    ∷ text []
+    ∷ small 80 82 (1 ∷ 2 ∷ 3 ∷ [])
+    ∷ dgBlock 0 267 0 599 1 0
+    ∷ cgBlock 0 303 297 0 1 1 2 0
+    ∷ text (97 ∷ 98 ∷ [])
+    ∷ cnBlock (links4 531 577 0 583) 1 0 8 0 (join (bytesOf 4 589 ∷ bytesOf 4 595 ∷ bytesOf 2 0 ∷ []))
+    ∷ conversion 65535 (0 ∷ 0 ∷ [])
+    ∷ small 67 69 (4 ∷ 5 ∷ [])
+    ∷ text (97 ∷ 98 ∷ [])
+    ∷ text (97 ∷ 98 ∷ [])
+    ∷ text []
+    ∷ (0x11 ∷ 0x22 ∷ [])
+    ∷ [])
+
+-- a header of 173 bytes from version 320 on: of the later fields the first is inside, the second is not
+abbrev pub shortLater : List ℕ
+shortLater = join (idBlock mdf 0 0 320 ∷ (72 ∷ 68 ∷ []) ∷ bytesOf 2 173 ∷ zeros 14 ∷ counting 100 146 ∷ counting 1 9 ∷ [])
+
+abbrev pub shortLaterCopy : List ℕ
+shortLaterCopy = join (idBlock mdf 0 0 320 ∷ (72 ∷ 68 ∷ []) ∷ bytesOf 2 208 ∷ zeros 14 ∷ counting 100 146 ∷ counting 1 8 ∷ zeros 36 ∷ [])
+
+-- a header of 208 bytes below version 320
+abbrev pub longHeader : List ℕ
+longHeader = join (id300 ∷ (72 ∷ 68 ∷ []) ∷ bytesOf 2 208 ∷ zeros 14 ∷ counting 100 146 ∷ counting 1 44 ∷ [])
+
+-- a record of 4 bytes, its channel with a CC at 518
+abbrev pub withConversion : ℕ → ℕ → List ℕ → List ℕ → List ℕ
+withConversion bits dataType bytes cc = oneGroup (length bytes) 1 (cnBlock (links4 (514 + length bytes) 0 0 0) 0 0 bits dataType (zeros 10)) (bytes ++ cc)
+
+-- P1, P2: 0.0 and 40.0; infinity; 1.0
+abbrev pub f64-zero : List ℕ
+f64-zero = zeros 8
+
+abbrev pub f64-forty : List ℕ
+f64-forty = bytesOf 8 0x4044000000000000
+
+abbrev pub f64-inf : List ℕ
+f64-inf = bytesOf 8 0x7FF0000000000000
+
+abbrev pub f64-most : List ℕ
+f64-most = bytesOf 8 0x7FEFFFFFFFFFFFFF
+
+-- a text of 20,000 bytes shared by the file and by one group
+abbrev pub swollen : List ℕ
+swollen = join (id300 ∷ hdBlock 228 286 0 1 ∷ dgBlock 0 256 0 0 1 0 ∷ cgBlock 0 0 286 0 0 0 0 0 ∷ text (zeros 19996) ∷ [])
+
+-- Of endless lists, the 1,025th data group is reached from the second of two, the 1,025th channel group from a data group that has two.
+unfoldable pub checks : List Posting
+checks =
+    checked (idBlock (77 ∷ 68 ∷ 70 ∷ 32 ∷ 32 ∷ 32 ∷ 32 ∷ 0 ∷ []) 0 0 300 ++ hdBlock 0 0 0 0) 2 0
+    ∷ checked (idBlock (85 ∷ 110 ∷ 70 ∷ 105 ∷ 110 ∷ 77 ∷ 70 ∷ 32 ∷ []) 0 0 300 ++ hdBlock 0 0 0 0) 3 0
+    ∷ checked (idBlock mdf 256 1 299 ++ hdBlock 0 0 0 0) 4 24
+    ∷ checked (idBlock mdf 0 1 299 ++ hdBlock 0 0 0 0) 4 26
+    ∷ checked (idBlock mdf 0 0 299 ++ hdBlock 0 0 0 0) 4 28
+    ∷ checked (idBlock mdf 0 0 400) 4 28
+    ∷ checked (idBlock mdf 0 0 399 ++ hdBlock 0 0 0 0) 0 0
+    ∷ checked id300 5 64
+    ∷ checked (header (hdBlock 1 1 1 0)) 5 72
+    ∷ checked (header (hdBlock 1 0 1 0)) 5 76
+    ∷ checked (header (hdBlock 227 0 0 0)) 5 68
+    ∷ checked (header (hdBlock 4294967295 0 0 0)) 5 68
+    ∷ checked (header (hdBlock 0 0 228 0) ++ text []) 5 76
+    ∷ checked (header (hdBlock 0 0 228 0) ++ small 80 82 []) 0 0
+    ∷ checked (oneDataGroup (dgBlock 0 1 1 1 0 3) []) 6 240
+    ∷ checked (oneDataGroup (dgBlock 0 1 0 1 0 3) []) 8 250
+    ∷ checked (oneDataGroup (dgBlock 256 0 0 1 0 2) (dgBlock 228 0 0 1 0 2)) 7 260
+    ∷ checked (oneDataGroup (dgBlock 228 256 0 0 0 1) (cgBlock 286 0 0 1 0 0 0 0 ++ cgBlock 0 0 0 2 0 0 0 0)) 7 236
+    ∷ checked (oneDataGroup (dgBlock 1 0 0 4294967295 0 2) []) 5 232
+    ∷ checked (oneDataGroup (dgBlock 0 1 0 0 0 2) []) 5 236
+    ∷ checked (oneChannelGroup 0 (cgBlock 1 1 1 256 0 0 1 1) []) 6 282
+    ∷ checked (oneChannelGroup 1 (cgBlock 1 1 1 256 0 0 1 0) []) 8 272
+    ∷ checked (oneChannelGroup 0 (cgBlock 1 1 1 256 0 0 1 0) []) 5 268
+    ∷ checked (oneChannelGroup 0 (cgBlock 1 1 0 256 0 0 1 0) []) 10 276
+    ∷ checked (oneChannelGroup 0 (cgBlock 1 1 0 256 0 1 1 0) []) 5 264
+    ∷ checked (oneChannelGroup 0 (cgBlock 1 0 0 256 0 1 1 0) []) 8 260
+    ∷ checked (oneChannelGroup 1 (cgBlock 1 0 0 255 0 1 1 0) []) 5 260
+    ∷ checked (oneChannelGroup 1 (cgBlock 256 0 0 7 0 1 1 0) []) 8 272
+    ∷ checked (oneChannelGroup 0 (cgBlock 0 0 0 256 0 0 0 0) []) 0 0
+    ∷ checked (oneChannelGroup 0 (cgBlock 0 0 0 0 0 1 1 0) []) 11 514
+    ∷ checked (oneDataGroup (dgBlock 1 256 0 0 0 0) (cgBlock 0 0 0 0 0 1 1 0)) 11 244
+    ∷ checked (oneChannel (cnBlock (links4 1 1 1 1) 2 1 16 17 (zeros 10)) []) 5 294
+    ∷ checked (oneChannel (cnBlock (links4 514 1 1 1) 2 1 16 17 (zeros 10)) (conversion 12 (0 ∷ 0 ∷ []))) 6 556
+    ∷ checked (oneChannel (cnBlock (links4 514 1 1 1) 2 1 16 17 (zeros 10)) (conversion 11 (0 ∷ 0 ∷ []))) 5 298
+    ∷ checked (oneChannel (cnBlock (links4 0 0 1 1) 2 1 16 17 (zeros 10)) []) 6 302
+    ∷ checked (oneChannel (cnBlock (links4 0 0 0 1) 2 1 16 17 (zeros 10)) []) 5 306
+    ∷ checked (oneChannel (cnBlock (zeros 16) 2 1 16 17 (counting 1 10)) []) 9 310
+    ∷ checked (oneChannel (cnBlock (zeros 16) 1 1 16 17 (counting 1 8 ++ zeros 2)) []) 9 472
+    ∷ checked (oneChannel (cnBlock (zeros 16) 1 0 16 17 (counting 1 8 ++ zeros 2)) []) 9 476
+    ∷ checked (oneChannel (cnBlock (zeros 16) 1 0 16 16 (counting 1 8 ++ zeros 2)) []) 5 504
+    ∷ checked (oneChannel (cnBlock (zeros 16) 1 0 16 16 (zeros 4 ++ counting 1 4 ++ zeros 2)) []) 5 508
+    ∷ checked (oneChannel (cnBlock (zeros 16) 1 0 16 16 (zeros 8 ++ (1 ∷ 0 ∷ []))) []) 9 472
+    ∷ checked (oneChannel (cnBlock (zeros 16) 1 9 0 16 (zeros 8 ++ (9 ∷ 9 ∷ []))) []) 0 0
+    ∷ checked (oneGroup 2 2 (signal 0 16 0) (1 ∷ 2 ∷ 3 ∷ [])) 11 516
+    ∷ checked (twoGroups 1 (1 ∷ 0xAA ∷ 0xBB ∷ 3 ∷ 0xCC ∷ [])) 11 547
+    ∷ checked (twoGroups 1 (1 ∷ 0xAA ∷ 0xBB ∷ 2 ∷ 0xCC ∷ 2 ∷ 0xDD ∷ 0xEE ∷ [])) 11 549
+    ∷ checked (twoGroups 1 (1 ∷ 0xAA ∷ 0xBB ∷ 2 ∷ 0xCC ∷ 1 ∷ 0xDD ∷ [])) 11 549
+    ∷ checked (twoGroups 1 (1 ∷ 0xAA ∷ 0xBB ∷ 2 ∷ 0xCC ∷ [])) 11 549
+    ∷ checked (twoGroups 2 (1 ∷ 0xAA ∷ 0xBB ∷ 1 ∷ 2 ∷ 0xCC ∷ 2 ∷ 1 ∷ 0xDD ∷ 0xEE ∷ 2 ∷ [])) 11 551
+    ∷ checked (twoGroups 2 (1 ∷ 0xAA ∷ 0xBB ∷ 1 ∷ 2 ∷ 0xCC ∷ 2 ∷ 1 ∷ 0xDD ∷ 0xEE ∷ [])) 11 551
+    ∷ []
+
+unfoldable pub others : List Posting
+others =
+    copies everything (room 602) (record { given = success 601; memory = everythingCopy ++ room 1 })
+    ∷ copies everythingCopy (room 601) (record { given = success 601; memory = everythingCopy })
+    ∷ copies shortLater (room 272) (record { given = success 272; memory = shortLaterCopy })
+    ∷ copies longHeader (room 228) (record { given = success 228; memory = plain300 })
+    ∷ copies id300 (room 1) (record { given = refusal 5 64; memory = room 1 })
+    ∷ asked (oneRecord 2 0 16 0 (1 ∷ 2 ∷ [])) 0 0 0 0 0
+    ∷ asked (oneRecord 2 0 16 0 (1 ∷ 2 ∷ [])) 1 0 0 14 0
+    ∷ asked (oneRecord 2 0 16 0 (1 ∷ 2 ∷ [])) 0 1 0 14 0
+    ∷ asked (oneRecord 2 0 16 0 (1 ∷ 2 ∷ [])) 0 0 1 14 0
+    ∷ asked (oneRecord 2 0 0 0 (1 ∷ 2 ∷ [])) 0 0 1 14 0
+    ∷ asked (oneRecord 2 0 0 0 (1 ∷ 2 ∷ [])) 0 0 0 15 476
+    ∷ asked (oneRecord 4 0 32 4 (1 ∷ 2 ∷ 3 ∷ 4 ∷ [])) 0 0 0 15 476
+    ∷ asked (oneRecord 4 0 31 2 (1 ∷ 2 ∷ 3 ∷ 4 ∷ [])) 0 0 0 15 476
+    ∷ asked (oneRecord 5 1 32 2 (1 ∷ 2 ∷ 3 ∷ 4 ∷ 5 ∷ [])) 0 0 0 15 476
+    ∷ asked (oneRecord 4 0 32 3 (1 ∷ 2 ∷ 3 ∷ 4 ∷ [])) 0 0 0 15 476
+    ∷ asked (oneRecord 2 0 12 7 (1 ∷ 2 ∷ [])) 0 0 0 15 476
+    ∷ asked (oneRecord 2 1 8 8 (1 ∷ 2 ∷ [])) 0 0 0 15 476
+    ∷ sampled mode2 (success (natural 0xBBAA))
+    ∷ sampled (oneRecord 2 4 8 13 (0x34 ∷ 0x12 ∷ [])) (success (natural 0x23))
+    ∷ sampled (oneRecord 2 4 8 14 (0x34 ∷ 0x18 ∷ [])) (success (integer (negsuc 0x7C)))
+    ∷ sampled (oneRecord 2 4 8 10 (0x38 ∷ 0x12 ∷ [])) (success (integer (negsuc 0x7E)))
+    ∷ sampled (oneGroup 2 1 (cnBlock (zeros 16) 0 0 8 0 (zeros 8 ++ (1 ∷ 0 ∷ []))) (5 ∷ 6 ∷ [])) (success (natural 6))
+    ∷ sampled (oneRecord 4 0 32 2 (0 ∷ 0 ∷ 0xC0 ∷ 0x3F ∷ [])) (success (float32 (fin false 3 (negsuc 0))))
+    ∷ sampled (oneRecord 4 0 32 11 (0xBF ∷ 0xC0 ∷ 0 ∷ 0 ∷ [])) (success (float32 (fin true 3 (negsuc 0))))
+    ∷ sampled (oneRecord 4 0 32 15 (0 ∷ 0 ∷ 0xC0 ∷ 0x7F ∷ [])) (success (float32 nan))
+    ∷ sampled (oneRecord 8 0 64 3 f64-forty) (success (float64 (fin false 5 (pos 3))))
+    ∷ sampled (oneRecord 8 0 64 12 (0x40 ∷ 0x44 ∷ zeros 6)) (success (float64 (fin false 5 (pos 3))))
+    ∷ sampled (oneRecord 8 0 64 16 f64-inf) (success (float64 (inf false)))
+    ∷ sampled (oneRecord 3 8 16 7 (65 ∷ 66 ∷ 67 ∷ [])) (success (bytesAt 515 2))
+    ∷ parted (oneRecord 3 8 16 7 (65 ∷ 66 ∷ 67 ∷ [])) (66 ∷ 67 ∷ [])
+    ∷ parted (oneRecord 3 8 16 8 (65 ∷ 66 ∷ 67 ∷ [])) (66 ∷ 67 ∷ [])
+    ∷ parted (oneRecord 3 8 16 0 (65 ∷ 66 ∷ 67 ∷ [])) []
+    ∷ parted (oneRecord 3 9 8 7 (65 ∷ 66 ∷ 67 ∷ [])) []
+    ∷ converts (oneRecord 1 0 8 0 (5 ∷ [])) (success (fin false 5 (pos 0)))
+    ∷ converts (oneRecord 1 0 8 1 (0xFB ∷ [])) (success (fin true 5 (pos 0)))
+    ∷ converts (oneRecord 8 0 64 3 f64-forty) (success (fin false 5 (pos 3)))
+    ∷ converts (oneRecord 8 0 64 3 f64-inf) (refusal 16 0)
+    ∷ converts (oneRecord 4 0 32 2 (0 ∷ 0 ∷ 0xC0 ∷ 0x3F ∷ [])) (refusal 16 0)
+    ∷ converts (oneRecord 1 0 8 7 (5 ∷ [])) (refusal 16 0)
+    ∷ converts (oneRecord 1 0 0 7 (5 ∷ [])) (refusal 15 476)
+    ∷ converts (oneRecord 8 0 64 0 (bytesOf 8 9007199254740992)) (success (fin false 1 (pos 53)))
+    ∷ converts (oneRecord 8 0 64 0 (bytesOf 8 9007199254740993)) (refusal 16 0)
+    ∷ converts (oneRecord 8 0 64 1 (bytesOf 8 18437736874454810624)) (success (fin true 1 (pos 53)))
+    ∷ converts (oneRecord 8 0 64 1 (bytesOf 8 18437736874454810623)) (refusal 16 0)
+    ∷ converts (withConversion 8 0 (5 ∷ []) (conversion 0 (bytesOf 2 2 ++ (f64-zero ++ f64-forty)))) (success (fin false 25 (pos 3)))
+    ∷ converts (withConversion 8 0 (5 ∷ []) (conversion 0 (bytesOf 2 2 ++ (f64-forty ++ f64-zero)))) (success (fin false 5 (pos 3)))
+    ∷ converts (withConversion 8 0 (5 ∷ []) (conversion 0 (bytesOf 2 2 ++ (f64-zero ++ zeros 7)))) (refusal 16 0)
+    ∷ converts (withConversion 8 0 (5 ∷ []) (conversion 0 (bytesOf 2 2 ++ (f64-inf ++ f64-forty)))) (refusal 16 0)
+    ∷ converts (withConversion 8 0 (0 ∷ []) (conversion 0 (bytesOf 2 2 ++ (f64-zero ++ f64-inf)))) (refusal 16 0)
+    ∷ converts (withConversion 8 0 (5 ∷ []) (conversion 0 (bytesOf 2 2 ++ (f64-zero ++ f64-most)))) (refusal 16 0)
+    ∷ converts (withConversion 8 0 (5 ∷ []) (conversion 65535 (zeros 2))) (success (fin false 5 (pos 0)))
+    ∷ converts (withConversion 8 0 (5 ∷ []) (conversion 1 (bytesOf 2 2 ++ (f64-zero ++ f64-forty)))) (refusal 16 0)
+    ∷ prints [] (50 ∷ 32 ∷ 48 ∷ 10 ∷ [])
+    ∷ prints plain300 plain300
+    ∷ prints id300 (53 ∷ 32 ∷ 54 ∷ 52 ∷ 10 ∷ [])
+    ∷ prints (zeros 32769) (49 ∷ 32 ∷ 48 ∷ 10 ∷ [])
+    ∷ prints swollen (49 ∷ 51 ∷ 32 ∷ 52 ∷ 48 ∷ 50 ∷ 56 ∷ 54 ∷ 10 ∷ [])
+    ∷ []
+
+abbrev pub OwnPostingsAgree : Type 0
+OwnPostingsAgree = Agree checks × Agree others
+
+-- ---- readings that differ
+
+-- both images are accepted, and their readings are not equal
+abbrev pub ReadingsDiffer : List ℕ → List ℕ → Type 0
+ReadingsDiffer a b = (checkOutcome a .number ≡ 0) × (checkOutcome b .number ≡ 0) × (reads a ≡ reads b → ⊥)
+
+-- no comment, and one of no bytes
+abbrev pub AbsentIsNotEmpty : Type 0
+AbsentIsNotEmpty = ReadingsDiffer plain300 (header (hdBlock 0 228 0 0) ++ text [])
+
+-- two groups of one size: A, B and C logged as 1 1 2, and as 1 2 2
+abbrev pub logged : ℕ → ℕ → List ℕ → List ℕ
+logged first second bytes =
+    oneDataGroup (dgBlock 0 256 0 316 2 1) (join (cgBlock 286 0 0 1 0 1 first 0 ∷ cgBlock 0 0 0 2 0 1 second 0 ∷ bytes ∷ []))
+
+abbrev pub MovedRecordIsSeen : Type 0
+MovedRecordIsSeen = ReadingsDiffer (logged 2 1 (1 ∷ 65 ∷ 1 ∷ 66 ∷ 2 ∷ 67 ∷ [])) (logged 1 2 (1 ∷ 65 ∷ 2 ∷ 66 ∷ 2 ∷ 67 ∷ []))
