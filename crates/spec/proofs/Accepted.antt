@@ -1,7 +1,7 @@
 -- The reading of every accepted image is well formed, and its groups have their record counts of records.
 -- Assumes nothing.
 use Prim.Native.Nat.{ℕ, zero, suc, _+_, _-_, _≤_, _<_}
-use mathlib.Core.Path.{_≡_, refl, sym, _∙_, ap, ap₂, subst}
+use mathlib.Core.Path.{_≡_, refl, sym, _∙_, ap, subst}
 use mathlib.Core.Bool.{Bool, true, false, not, cond, _||_, _&&_, true≢false}
 use mathlib.Core.List.{List, [], _∷_, _++_, map}
 use mathlib.Core.Option.{Option, none, some}
@@ -9,18 +9,18 @@ use native.Mathlib.Omega.{arith}
 use lib.Dec.{leb, eqb, ltb}
 use lib.ListN.{length, take, length-append, length-map}
 use lib.Seq.{length-take-le}
-use borrow.Author.Tests.{leb-true, eqb-true, eq-eqb}
+use borrow.Author.Tests.{leb-true, eq-eqb}
 use Rattle.spec.specs.Bytes.{All, Bytes, join, field}
 use Rattle.spec.specs.Answer.{Answer, refused, accepted, mapAnswer}
-use Rattle.spec.specs.Block.{Image, imageOf, HD, DG, CG, CN, CC, CE, TX, PR, HD-written, versionOf, Opened, HdBlock, readHd, DgBlock, readDg, CgBlock, readCg, Fields, channelType, dataType, CnBlock, readCn}
-use Rattle.spec.specs.Reading.{Channel, Group, Reading}
+use Rattle.spec.specs.Block.{Image, imageOf, HD, CG, CN, CC, CE, TX, PR, HD-written, versionOf, Opened, HdBlock, readHd, CgBlock, readCg, Fields, channelType, dataType, CnBlock, readCn}
+use Rattle.spec.specs.Reading.{Reading}
 use Rattle.spec.specs.Records.{Slot, Logged, recordsOf}
 use Rattle.spec.specs.Found.{FoundBody, FoundChannel, FoundGroup, FoundDataGroup, FoundFile, slotOf, GroupIn, groupsIn, recordsIn, readBody, readChannel, readGroup, readingOf}
 use Rattle.spec.specs.Walk.{bitsFit, fieldsPass, formulaPasses, conversionAt, channelAt, channelList, elem, isEmpty, groupAllowed, idAllowed, groupList, channelCount, dataGroupList, fileFrom, identPasses, walk, reads}
-use Rattle.spec.specs.WellFormed.{BodyFits, NoLinks, WellFormedChannel, WellFormedGroup, channelTotal, WellFormedIdent, WellFormed}
-use Rattle.spec.proofs.Answers.{Gives, gives, gives-none, bind, test}
-use Rattle.spec.proofs.Opens.{OpenedBlock, open-gives, body-gives, length-field, u16-small, u32-small}
-use Rattle.spec.proofs.Logs.{Distinct, Kept, log-gives}
+use Rattle.spec.specs.WellFormed.{BodyFits, NoLinks, FieldsFit, WellFormedChannel, WellFormedGroup, channelTotal, WellFormedIdent, WellFormed}
+use Rattle.spec.proofs.Answers.{Gives, gives, gives-none, bind, test, anything, both-give}
+use Rattle.spec.proofs.Opens.{OpenedBlock, open-gives, body-gives, length-field, bytes-take, bytes-join, bytes-field, u16-small, u32-small}
+use Rattle.spec.proofs.Logs.{Distinct, Kept, log-gives, all-records, log-bytes}
 
 -- ---- channels
 
@@ -36,9 +36,18 @@ fields-give size p f =
     bind _ (test _ _ _) λ _ t₂.
     record { given = λ u e. (t₁, t₂, test _ _ _ .given u e) }
 
-cn-lengths : (cn : CnBlock) → (block : List ℕ) × OpenedBlock CN block × (readCn block ≡ cn) → (length (cn .fields .main) ≡ 194) × (length (cn .fields .added) ≡ 2)
+cn-fields : (cn : CnBlock) → (block : List ℕ) × OpenedBlock CN block × (readCn block ≡ cn) → FieldsFit (cn .fields)
 unfolding readCn
-cn-lengths cn o = (rw (← o .2) (length-field 194 24 (o .0)), rw (← o .2) (length-field 2 226 (o .0)))
+cn-fields cn o = subst (λ (x : CnBlock). FieldsFit (x .fields)) (o .2) (fit (o .0) (o .1 .bytes))
+  where
+    fit : (block : List ℕ) → Bytes block → FieldsFit (readCn block .fields)
+    fit block bytes =
+        record {
+          main = length-field 194 24 block;
+          added = length-field 2 226 block;
+          main-bytes = bytes-field 194 24 block bytes;
+          added-bytes = bytes-field 2 226 block bytes;
+        }
 
 record ChannelsFit (left size : ℕ) (cs : List FoundChannel) : Type 0 where
   each : All (WellFormedChannel size) (map readChannel cs)
@@ -52,10 +61,9 @@ module _ (image : Image) (bytes : Bytes (image .bytes)) where
       bind _ (formula-gives c) λ _ t.
       gives _ (h, t)
 
-  channel-gives : (size : ℕ) (cn : Opened CnBlock) → length (cn .content .fields .main) ≡ 194 → length (cn .content .fields .added) ≡ 2
-      → Gives (channelAt image size cn) (λ c. WellFormedChannel size (readChannel c))
+  channel-gives : (size : ℕ) (cn : Opened CnBlock) → FieldsFit (cn .content .fields) → Gives (channelAt image size cn) (λ c. WellFormedChannel size (readChannel c))
   unfolding channelAt
-  channel-gives size cn m a =
+  channel-gives size cn fits =
       bind _ (conversion-gives (cn .place) (cn .content .conversion)) λ conversion c₁.
       bind _ (body-gives image bytes CE _ _ (omega arith)) λ extension c₂.
       bind _ (test _ _ _) λ _ _.
@@ -63,7 +71,7 @@ module _ (image : Image) (bytes : Bytes (image .bytes)) where
       bind _ (fields-give size (cn .place) (cn .content .fields)) λ _ c₄.
       bind _ (body-gives image bytes TX _ _ (omega arith)) λ longName c₅.
       bind _ (body-gives image bytes TX _ _ (omega arith)) λ displayName c₆.
-      gives _ (record { main = m; added = a; conversion = c₁ .0; noLinks = c₁ .1; extension = c₂; comment = c₃; type = c₄ .0; bits = c₄ .1; data-type = c₄ .2; longName = c₅; displayName = c₆ })
+      gives _ (record { fields = fits; conversion = c₁ .0; noLinks = c₁ .1; extension = c₂; comment = c₃; type = c₄ .0; bits = c₄ .1; data-type = c₄ .2; longName = c₅; displayName = c₆ })
 
   channels-give : (left size linkField : ℕ) (l : Option ℕ) → Gives (channelList image left size linkField l) (ChannelsFit left size)
   unfolding channelList
@@ -72,7 +80,7 @@ module _ (image : Image) (bytes : Bytes (image .bytes)) where
   channels-give (suc left) size linkField none = gives _ (record { each = tt; limit = omega arith })
   channels-give (suc left) size linkField (some p) =
       bind _ (open-gives image bytes CN readCn linkField p) λ cn o.
-      bind _ (channel-gives size cn (cn-lengths (cn .content) o .0) (cn-lengths (cn .content) o .1)) λ c h.
+      bind _ (channel-gives size cn (cn-fields (cn .content) o)) λ c h.
       bind _ (channels-give left size _ _) λ rest r.
       gives _ (record { each = (h, r .each); limit = omega (arith, r .limit) })
 
@@ -157,9 +165,6 @@ apart x us (s ∷ ss) f =
     neither true u e = absurd (true≢false e)
     neither false u e = (refl, e)
 
-anything : {A : Type 0} (m : Answer A) → Gives m (λ _. Unit {0})
-anything m = record { given = λ a e. tt }
-
 groups-apart : (image : Image) (left channelsLeft mode : ℕ) (used : List ℕ) (linkField : ℕ) (l : Option ℕ) → Gives (groupList image left channelsLeft mode used linkField l) (GroupsApart mode used)
 unfolding groupList
 groups-apart image zero cl mode used linkField none = gives _ (no-groups mode used)
@@ -183,13 +188,14 @@ all-map : {A B : Type 0} (P : B → Type 0) (f : A → B) (xs : List A) → All 
 all-map P f [] a = tt
 all-map P f (x ∷ xs) a = (a .0, all-map P f xs (a .1))
 
-group-fits : (d : FoundDataGroup) (g : FoundGroup) → GroupFits g → Kept (d .log) (slotOf g) → WellFormedGroup (readGroup (record { dataGroup = d; group = g }))
-group-fits d g fits kept =
+group-fits : (d : FoundDataGroup) (g : FoundGroup) → GroupFits g → Kept (d .log) (slotOf g) → All (λ (r : Logged). Bytes (r .content)) (d .log) → WellFormedGroup (readGroup (record { dataGroup = d; group = g }))
+group-fits d g fits kept bytes =
     record {
       recordSize = fits .recordSize;
       comment = fits .comment;
       channels = fits .channels;
       records = all-map (λ r. length r ≡ slotOf g .recordSize) (λ (r : Logged). r .content) rs (kept .sizes);
+      records-bytes = all-map Bytes (λ (r : Logged). r .content) rs (all-records (λ (r : Logged). Bytes (r .content)) (slotOf g .recordID) (d .log) bytes);
       count = omega (arith, same, fits .count);
       some-size = rw same (fits .some-size);
     }
@@ -206,12 +212,12 @@ record ReadingFits (left channelsLeft : ℕ) (gs : List GroupIn) : Type 0 where
   channels : channelTotal (map readGroup gs) ≤ channelsLeft
 
 -- the groups of one data group in front of those of the others
-reading-fits : (d : FoundDataGroup) (gs : List FoundGroup) (rest : List GroupIn) (l c : ℕ) → All GroupFits gs → All (Kept (d .log)) (map slotOf gs) → ReadingFits l c rest
+reading-fits : (d : FoundDataGroup) (gs : List FoundGroup) (rest : List GroupIn) (l c : ℕ) → All GroupFits gs → All (Kept (d .log)) (map slotOf gs) → All (λ (r : Logged). Bytes (r .content)) (d .log) → ReadingFits l c rest
     → ReadingFits (length gs + l) (channelCount gs + c) (map (λ g. record { dataGroup = d; group = g }) gs ++ rest)
-reading-fits d [] rest l c f k q = record { each = q .each; limit = omega (arith, q .limit); channels = omega (arith, q .channels) }
-reading-fits d (g ∷ gs) rest l c f k q =
-    let r = reading-fits d gs rest l c (f .1) (k .1) q in
-    record { each = (group-fits d g (f .0) (k .0), r .each); limit = omega (arith, r .limit); channels = omega (arith, r .channels, length-map (g .channels) readChannel) }
+reading-fits d [] rest l c f k b q = record { each = q .each; limit = omega (arith, q .limit); channels = omega (arith, q .channels) }
+reading-fits d (g ∷ gs) rest l c f k b q =
+    let r = reading-fits d gs rest l c (f .1) (k .1) b q in
+    record { each = (group-fits d g (f .0) (k .0) b, r .each); limit = omega (arith, r .limit); channels = omega (arith, r .channels, length-map (g .channels) readChannel) }
 
 module _ (image : Image) (bytes : Bytes (image .bytes)) where
   data-groups-give : (left gl cl linkField : ℕ) (l : Option ℕ) → Gives (dataGroupList image left gl cl linkField l) (λ ds. ReadingFits gl cl (groupsIn ds))
@@ -224,32 +230,51 @@ module _ (image : Image) (bytes : Bytes (image .bytes)) where
       bind _ (test _ _ _) λ _ _.
       bind _ (test _ _ _) λ _ _.
       bind _ (both-give (groups-give image bytes gl cl (dg .content .mode) [] _ _) (groups-apart image gl cl (dg .content .mode) [] _ _)) λ gs h.
-      bind _ (log-gives (image .bytes) (dg .content .mode) (map slotOf gs) _ _ (h .1 .distinct) (h .1 .single)) λ log k.
+      bind _ (both-give (log-gives (image .bytes) (dg .content .mode) (map slotOf gs) _ _ (h .1 .distinct) (h .1 .single)) (log-bytes (image .bytes) bytes _ _ _ _)) λ log k.
       bind _ (data-groups-give left (gl - length gs) (cl - channelCount gs) _ _) λ rest r.
-      let x = reading-fits (record { block = dg; groups = gs; log = log }) gs (groupsIn rest) (gl - length gs) (cl - channelCount gs) (h .0 .each) k r in
+      let x = reading-fits (record { block = dg; groups = gs; log = log }) gs (groupsIn rest) (gl - length gs) (cl - channelCount gs) (h .0 .each) (k .0) (k .1) r in
       gives _ (record { each = x .each; limit = omega (arith, x .limit, h .0 .limit); channels = omega (arith, x .channels, h .0 .channels) })
-    where
-      both-give : {A : Type 0} {m : Answer A} {P Q : A → Type 0} → Gives m P → Gives m Q → Gives m (λ a. P a × Q a)
-      both-give g h = record { given = λ a e. (g .given a e, h .given a e) }
 
 -- ---- the file
 
-ident-gives : (ident : List ℕ) → length ident ≡ 64 → Gives (identPasses ident) (λ _. WellFormedIdent ident)
+ident-gives : (ident : List ℕ) → length ident ≡ 64 → Bytes ident → Gives (identPasses ident) (λ _. WellFormedIdent ident)
 unfolding identPasses
-ident-gives ident l =
+ident-gives ident l b =
     bind _ (test _ _ _) λ _ _.
     bind _ (test _ _ _) λ _ i₁.
     bind _ (test _ _ _) λ _ i₂.
     bind _ (test _ _ _) λ _ i₃.
-    record { given = λ u e. record { size = l; identifier = i₁; order = i₂; floats = i₃; in-range = test _ _ _ .given u e } }
+    record { given = λ u e. record { size = l; bytes = b; identifier = i₁; order = i₂; floats = i₃; in-range = test _ _ _ .given u e } }
 
-hd-lengths : (version : ℕ) (hd : HdBlock) → (block : List ℕ) × OpenedBlock HD block × (readHd version block ≡ hd) → (length (hd .plain) ≡ 146) × (164 + length (hd .later) ≡ HD-written version)
+record HdFields (version : ℕ) (hd : HdBlock) : Type 0 where
+  plain : length (hd .plain) ≡ 146
+  later : 164 + length (hd .later) ≡ HD-written version
+  plain-bytes : Bytes (hd .plain)
+  later-bytes : Bytes (hd .later)
+
+hd-fields : (version : ℕ) (hd : HdBlock) → (block : List ℕ) × OpenedBlock HD block × (readHd version block ≡ hd) → HdFields version hd
 unfolding readHd
-hd-lengths version hd o = (rw (← o .2) (length-field 146 18 (o .0)), rw (← o .2) (go (ltb version 320)))
+hd-fields version hd o = rw (o .2) at (fit (o .0) (o .1 .bytes))
   where
-    go : (t : Bool) → 164 + length (cond t [] (join (field 8 164 (o .0) ∷ field 2 172 (o .0) ∷ field 2 174 (o .0) ∷ field 32 176 (o .0) ∷ []))) ≡ cond t 164 208
-    go true = refl
-    go false = simp (length-append, length-field)
+    fit : (block : List ℕ) → Bytes block → HdFields version (readHd version block)
+    fit block bytes =
+        record {
+          plain = length-field 146 18 block;
+          later = long (ltb version 320);
+          plain-bytes = bytes-field 146 18 block bytes;
+          later-bytes = each (ltb version 320);
+        }
+      where
+        pieces : List (List ℕ)
+        pieces = field 8 164 block ∷ field 2 172 block ∷ field 2 174 block ∷ field 32 176 block ∷ []
+
+        long : (t : Bool) → 164 + length (cond t [] (join pieces)) ≡ cond t 164 208
+        long true = refl
+        long false = simp (length-append, length-field)
+
+        each : (t : Bool) → Bytes (cond t [] (join pieces))
+        each true = tt
+        each false = bytes-join pieces (bytes-field 8 164 block bytes, (bytes-field 2 172 block bytes, (bytes-field 2 174 block bytes, (bytes-field 32 176 block bytes, tt))))
 
 module _ (image : Image) (bytes : Bytes (image .bytes)) where
   file-gives : (ident : List ℕ) → image .version ≡ versionOf ident → WellFormedIdent ident → Gives (fileFrom image ident) (λ f. WellFormed (readingOf f))
@@ -259,8 +284,8 @@ module _ (image : Image) (bytes : Bytes (image .bytes)) where
       bind _ (body-gives image bytes TX _ _ (omega arith)) λ comment c₁.
       bind _ (body-gives image bytes PR _ _ (omega arith)) λ program c₂.
       bind _ (data-groups-give image bytes 1024 1024 16384 68 _) λ groups g.
-      let h = hd-lengths (image .version) (hd .content) o in
-      gives _ (record { ident = i; plain = h .0; later = h .1 ∙ ap HD-written v; comment = c₁; program = c₂; groups = g .each; group-limit = g .limit; channel-limit = g .channels })
+      let h = hd-fields (image .version) (hd .content) o in
+      gives _ (record { ident = i; plain = h .plain; later = h .later ∙ ap HD-written v; plain-bytes = h .plain-bytes; later-bytes = h .later-bytes; comment = c₁; program = c₂; groups = g .each; group-limit = g .limit; channel-limit = g .channels })
 
 module _ (b : List ℕ) (bytes : Bytes b) where
   walk-gives : Gives (walk b) (λ f. WellFormed (readingOf f))
@@ -268,7 +293,7 @@ module _ (b : List ℕ) (bytes : Bytes b) where
   walk-gives =
       bind _ (test _ _ _) λ _ _.
       bind _ (test _ _ _) λ _ t.
-      bind _ (ident-gives (take 64 b) (length-take-le 64 b (leb-true 64 (length b) t))) λ _ i.
+      bind _ (ident-gives (take 64 b) (length-take-le 64 b (leb-true 64 (length b) t)) (bytes-take 64 b bytes)) λ _ i.
       file-gives (imageOf b) bytes (take 64 b) refl i
 
   pub accepted-well-formed : (r : Reading) → reads b ≡ accepted r → WellFormed r

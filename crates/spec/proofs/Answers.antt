@@ -20,6 +20,16 @@ pub pass : (t : Bool) (n p : ℕ) → t ≡ true → require t n p ≡ accepted 
 unfolding require
 pass t n p e = rw e
 
+-- ---- steps that refuse
+
+pub stop : {A B : Type 0} {m : Answer A} (f : A → Answer B) {n p : ℕ} → m ≡ refused n p → (m >>= f) ≡ refused n p
+unfolding _>>=_
+stop f e = rw e
+
+pub fail : (t : Bool) (n p : ℕ) → t ≡ false → require t n p ≡ refused n p
+unfolding require
+fail t n p e = rw e
+
 -- ---- whatever is accepted satisfies P
 
 pub record Gives {A : Type 0} (m : Answer A) (P : A → Type 0) : Type 0 where
@@ -47,3 +57,10 @@ test false n p = gives-none n p
 pub gives-at : {A : Type 0} {P : A → Type 0} (place : ℕ) {m : Answer A} → Gives m P → Gives (atPlace place m) P
 gives-at place {m = refused n p} g = gives-none n place
 gives-at place {m = accepted a} g = g
+
+-- nothing is said of it
+pub anything : {A : Type 0} (m : Answer A) → Gives m (λ _. Unit {0})
+anything m = record { given = λ a e. tt }
+
+pub both-give : {A : Type 0} {m : Answer A} {P Q : A → Type 0} → Gives m P → Gives m Q → Gives m (λ a. P a × Q a)
+both-give g h = record { given = λ a e. (g .given a e, h .given a e) }

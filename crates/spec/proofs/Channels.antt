@@ -2,13 +2,13 @@
 -- Assumes nothing.
 use Prim.Native.Nat.{ℕ, zero, suc, _+_, _≤_, _<_}
 use mathlib.Core.Path.{_≡_, refl, _∙_, ap, ap₂}
-use mathlib.Core.List.{List, [], _∷_, _++_, map}
+use mathlib.Core.List.{List, [], _∷_, map}
 use mathlib.Core.Option.{Option, none, some}
 use native.Mathlib.Omega.{arith}
 use lib.ListN.{length, length-append}
 use Rattle.spec.specs.Bytes.{All}
 use Rattle.spec.specs.Answer.{accepted}
-use Rattle.spec.specs.Block.{Image, CC, CE, TX, CN-written, Opened, CnBlock, writeCn}
+use Rattle.spec.specs.Block.{Image, CC, CE, TX, CN-written, writeCn}
 use Rattle.spec.specs.Reading.{Body, Channel}
 use Rattle.spec.specs.Found.{FoundChannel, readChannel}
 use Rattle.spec.specs.Walk.{fieldsPass, formulaPasses, conversionAt, channelAt, channelList}
@@ -62,8 +62,8 @@ module _ (image : Image) (size p : ℕ) (next : Option ℕ) (c : Channel) (ok : 
         extension = fit (extensionPlace p c) (c .extension) (omega arith) (omega arith);
         dependency = tt;
         comment = fit (commentPlace p c) (c .comment) (omega arith) (omega arith);
-        main = ok .main;
-        added = ok .added;
+        main = ok .fields .main;
+        added = ok .fields .added;
         longName = fit (longNamePlace p c) (c .longName) (omega arith) (omega arith);
         displayName = fit (displayNamePlace p c) (c .displayName) (omega arith) (omega arith);
       }
@@ -72,7 +72,7 @@ module _ (image : Image) (size p : ℕ) (next : Option ℕ) (c : Channel) (ok : 
   unfolding channelAt conversionAt fieldsPass channelBytes
   channel-back a =
       let cn = writeCn (cnOf p next c) in
-      let len : length cn ≡ CN-written = length-cn (cnOf p next c) (ok .main) (ok .added) in
+      let len : length cn ≡ CN-written = length-cn (cnOf p next c) (ok .fields .main) (ok .fields .added) in
       let a₁ = at-right cn _ (conversionPlace p c) a (omega arith) in
       let a₂ = at-right (bodyBytes CC (c .conversion)) _ (extensionPlace p c) a₁ (omega (arith, length-body CC (c .conversion))) in
       let a₃ = at-right (bodyBytes CE (c .extension)) _ (commentPlace p c) a₂ (omega (arith, length-body CE (c .extension))) in
@@ -104,7 +104,7 @@ length-placed p (c ∷ cs) = ap suc (length-placed (p + channelLength c) cs)
 length-channel : (size p : ℕ) (next : Option ℕ) (c : Channel) → WellFormedChannel size c → length (channelBytes p next c) ≡ channelLength c
 unfolding channelBytes channelLength
 length-channel size p next c ok =
-    simp (length-append, length-body, length-cn (cnOf p next c) (ok .main) (ok .added)) (omega arith)
+    simp (length-append, length-body, length-cn (cnOf p next c) (ok .fields .main) (ok .fields .added)) (omega arith)
 
 pub length-channels : (size p : ℕ) (cs : List Channel) → All (WellFormedChannel size) cs → length (channelsBytes p cs) ≡ channelsLength cs
 unfolding channelsBytes

@@ -2,19 +2,19 @@
 -- Assumes nothing.
 use Prim.Native.Nat.{ℕ, zero, suc, _+_, _-_, _≤_, _<_}
 use mathlib.Core.Path.{_≡_, refl, _∙_, ap, ap₂}
-use mathlib.Core.List.{List, [], _∷_, _++_, map}
+use mathlib.Core.List.{List, [], _∷_, map}
 use mathlib.Core.Option.{Option, none, some}
 use native.Mathlib.Omega.{arith}
 use lib.ListN.{length, length-append}
 use borrow.Author.Tests.{le-leb, ne-eqb}
 use Rattle.spec.specs.Bytes.{All, join}
 use Rattle.spec.specs.Answer.{accepted}
-use Rattle.spec.specs.Block.{Image, DG, TX, DG-written, CG-written, openAs, DgBlock, readDg, writeDg, CgBlock, writeCg}
-use Rattle.spec.specs.Reading.{Channel, Group}
-use Rattle.spec.specs.Records.{Slot, Logged, inOrder, logFrom, logOf, recordsOf}
-use Rattle.spec.specs.Found.{FoundGroup, FoundDataGroup, GroupIn, groupsIn, readGroup, slotOf}
+use Rattle.spec.specs.Block.{Image, DG, TX, DG-written, CG-written, openAs, readDg, writeDg, writeCg}
+use Rattle.spec.specs.Reading.{Group}
+use Rattle.spec.specs.Records.{Logged, inOrder, logFrom, logOf, recordsOf}
+use Rattle.spec.specs.Found.{FoundGroup, FoundDataGroup, groupsIn, readGroup, slotOf}
 use Rattle.spec.specs.Walk.{groupList, dataGroupList, channelCount}
-use Rattle.spec.specs.Canonical.{bodyBytes, channelsLength, recordsLength, groupLength, groupsLength, linkTo, linkToFirst, channelsBytes, cgPlace, groupCommentPlace, channelsPlace, recordsPlace, dgOf, cgOf, groupBytes, groupsBytes}
+use Rattle.spec.specs.Canonical.{bodyBytes, recordsLength, groupLength, groupsLength, linkToFirst, channelsBytes, cgPlace, groupCommentPlace, channelsPlace, recordsPlace, dgOf, cgOf, groupBytes, groupsBytes}
 use Rattle.spec.specs.WellFormed.{WellFormedGroup, channelTotal}
 use Rattle.spec.proofs.Answers.{step, pass, pass-true}
 use Rattle.spec.proofs.Places.{At, at-left, at-right, at-fits, at-take, LinkFits, linkTo-fits, linkToFirst-fits, placedBody, read-body, body-at, length-body}

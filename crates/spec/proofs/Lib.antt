@@ -7,5 +7,6 @@ pub mod RoundTrip
 pub mod Logs
 pub mod Opens
 pub mod Accepted
+pub mod CopyBytes
 pub mod Demand3
-pub mod Postings
+pub mod Examples

@@ -1,9 +1,9 @@
 -- What holds of every block that opens, and of its fields.
 -- Assumes nothing.
-use Prim.Native.Nat.{ℕ, zero, suc, _+_, _≤_, _<_, _^_}
+use Prim.Native.Nat.{ℕ, zero, suc, _+_, _/_, _≤_, _<_, _^_}
 use mathlib.Core.Path.{_≡_, refl}
 use mathlib.Core.Bool.{Bool, true, false, cond}
-use mathlib.Core.List.{List, [], _∷_}
+use mathlib.Core.List.{List, [], _∷_, _++_}
 use mathlib.Core.Option.{Option, none, some}
 use native.Mathlib.Omega.{arith}
 use native.Mathlib.Nat.{pow-suc}
@@ -11,23 +11,35 @@ use lib.Dec.{leb}
 use lib.ListN.{length, take, drop, replicate, length-drop, length-replicate}
 use lib.Seq.{length-take-le}
 use borrow.Author.Tests.{leb-true}
-use Rattle.spec.specs.Bytes.{Bytes, number, field, u16, u32}
-use Rattle.spec.specs.Block.{Kind, Image, sizeAt, opening, openBlock, Opened, openAs, bodyAt}
+use Rattle.spec.specs.Bytes.{All, Bytes, number, bytesOf, join, field, u16, u32}
+use Rattle.spec.specs.Block.{Kind, Image, sizeAt, opening, openBlock, openAs, bodyAt}
 use Rattle.spec.specs.Found.{readBody}
 use Rattle.spec.specs.WellFormed.{BodyFits}
 use Rattle.spec.proofs.Answers.{Gives, gives, bind, test, gives-at}
 
 -- ---- bytes
 
-bytes-take : (n : ℕ) (xs : List ℕ) → Bytes xs → Bytes (take n xs)
+pub bytes-take : (n : ℕ) (xs : List ℕ) → Bytes xs → Bytes (take n xs)
 bytes-take zero xs h = tt
 bytes-take (suc n) [] h = tt
 bytes-take (suc n) (x ∷ xs) h = (h .0, bytes-take n xs (h .1))
 
-bytes-drop : (n : ℕ) (xs : List ℕ) → Bytes xs → Bytes (drop n xs)
+pub bytes-drop : (n : ℕ) (xs : List ℕ) → Bytes xs → Bytes (drop n xs)
 bytes-drop zero xs h = h
 bytes-drop (suc n) [] h = tt
 bytes-drop (suc n) (x ∷ xs) h = bytes-drop n xs (h .1)
+
+pub bytes-append : (xs ys : List ℕ) → Bytes xs → Bytes ys → Bytes (xs ++ ys)
+bytes-append [] ys h k = k
+bytes-append (x ∷ xs) ys h k = (h .0, bytes-append xs ys (h .1) k)
+
+pub bytes-join : (xss : List (List ℕ)) → All Bytes xss → Bytes (join xss)
+bytes-join [] h = tt
+bytes-join (xs ∷ xss) h = bytes-append xs (join xss) (h .0) (bytes-join xss (h .1))
+
+pub bytes-of : (k n : ℕ) → Bytes (bytesOf k n)
+bytes-of zero n = tt
+bytes-of (suc k) n = (omega arith, bytes-of k (n / 256))
 
 bytes-zeros : (n : ℕ) → Bytes (replicate n 0)
 bytes-zeros zero = tt
@@ -47,7 +59,7 @@ length-field n off block = go (leb (off + n) (length block)) refl
     go true e = length-take-le n (drop off block) (rw length-drop (omega (arith, leb-true (off + n) (length block) e)))
     go false e = length-replicate n 0
 
-bytes-field : (n off : ℕ) (block : List ℕ) → Bytes block → Bytes (field n off block)
+pub bytes-field : (n off : ℕ) (block : List ℕ) → Bytes block → Bytes (field n off block)
 unfolding field
 bytes-field n off block h = go (leb (off + n) (length block))
   where
@@ -101,4 +113,6 @@ module _ (image : Image) (bytes : Bytes (image .bytes)) where
       bind _ (bind _ (gives-at linkField (opening-gives k p)) λ block o. gives _ (fits block o)) λ o h. gives _ h
     where
       fits : (block : List ℕ) → OpenedBlock k block → BodyFits k (some (drop 4 block))
-      fits block o = let e = length-drop 4 block in (omega (arith, o .least), omega (arith, o .least, o .small))
+      fits block o =
+          let e = length-drop 4 block in
+          (omega (arith, o .least), omega (arith, o .least, o .small), bytes-drop 4 block (o .bytes))

@@ -11,8 +11,8 @@ use lib.ListN.{length, take, drop, length-append, length-drop}
 use lib.Seq.{take-at, drop-drop, drop-append-seam, drop-append-add}
 use borrow.Author.Tests.{le-leb, eq-eqb}
 use Rattle.spec.specs.Bytes.{number, bytesOf, sameBytes, field, toLink, target}
-use Rattle.spec.specs.Answer.{Answer, accepted, atPlace}
-use Rattle.spec.specs.Block.{Kind, identifier, Image, sizeAt, opening, openBlock, Opened, openAs, bodyOf, bodyAt}
+use Rattle.spec.specs.Answer.{accepted, atPlace}
+use Rattle.spec.specs.Block.{Kind, identifier, Image, sizeAt, opening, openBlock, openAs, bodyOf, bodyAt}
 use Rattle.spec.specs.Reading.{Body}
 use Rattle.spec.specs.Found.{FoundBody, readBody}
 use Rattle.spec.specs.Canonical.{bodyLength, bodyBytes, linkTo, linkToFirst}

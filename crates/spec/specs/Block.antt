@@ -2,12 +2,12 @@
 -- Assumes nothing.
 use Prim.Native.Nat.{ℕ, _+_, _-_}
 use mathlib.Core.Bool.{cond}
-use mathlib.Core.List.{List, [], _∷_, _++_}
+use mathlib.Core.List.{List, [], _∷_}
 use mathlib.Core.Option.{Option, none, some}
 use lib.Dec.{leb, ltb}
 use lib.ListN.{length, take, drop}
 use Rattle.spec.specs.Bytes.{number, sameBytes, bytesOf, join, field, u16, u32, link, linkBytes}
-use Rattle.spec.specs.Answer.{Answer, refused, accepted, _>>=_, require, atPlace}
+use Rattle.spec.specs.Answer.{Answer, accepted, _>>=_, require, atPlace}
 
 -- ---- the table's first columns (2.4)
 

@@ -9,9 +9,9 @@ use lib.Dec.{leb, ltb}
 use lib.ListN.{length, drop, getElem?}
 use lib.Ieee.{Float}
 use Rattle.spec.specs.Answer.{Answer, refused, accepted, _>>=_, require, present, mapAnswer, passed}
-use Rattle.spec.specs.Reading.{Reading, Body}
+use Rattle.spec.specs.Reading.{Reading}
 use Rattle.spec.specs.Records.{Logged}
-use Rattle.spec.specs.Found.{FoundChannel, FoundFile, GroupIn, groupsIn, recordsIn, readBody}
+use Rattle.spec.specs.Found.{FoundChannel, groupsIn, recordsIn, readBody}
 use Rattle.spec.specs.Walk.{walk, reads, most}
 use Rattle.spec.specs.Canonical.{copyLength, canonicalCopy}
 use Rattle.spec.specs.Sample.{Stored, storedSample, Raw, rawValue, partOf, physicalValue}
@@ -45,7 +45,7 @@ pub record CopyOutcome : Type 0 where
   pub given : Outcome ℕ  -- the value: the copy's length
   pub memory : List ℕ
 
--- a refused copy leaves the output as it was; one that is made leaves what stands beyond its end
+-- refused: the output is untouched. Made: the copy, and behind it what the output held there
 abbrev pub copied : Answer Reading → List ℕ → CopyOutcome
 copied (refused n p) out = record { given = outcomeOf (refused n p); memory = out }
 copied (accepted r) out = record { given = outcomeOf (accepted (copyLength r)); memory = canonicalCopy r ++ drop (copyLength r) out }
@@ -60,7 +60,7 @@ pub record Asked : Type 0 where
   pub channel : FoundChannel
   pub row : Logged
 
--- group, channel and record, each counted from 0 in the reading
+-- the three indices begin at 0 and go by the reading
 unfoldable pub asking : List ℕ → ℕ → ℕ → ℕ → Answer Asked
 asking image group channel row = do
   f ← walk image
@@ -80,11 +80,11 @@ sampling image group channel row = do
 unfoldable pub sampleOutcome : List ℕ → ℕ → ℕ → ℕ → Outcome Stored
 sampleOutcome image group channel row = outcomeOf (sampling image group channel row)
 
--- the same with its raw value
+-- the same with its raw value: what the call returns. Of NaN patterns the stored sample alone keeps the bits
 unfoldable pub rawOutcome : List ℕ → ℕ → ℕ → ℕ → Outcome Raw
 rawOutcome image group channel row = outcomeOf (mapAnswer rawValue (sampling image group channel row))
 
--- the bytes of the part: the empty part where the sample call refuses or its type is another
+-- the bytes that `part` hands back: none for a refusal and for every kind of sample but a part
 abbrev pub partIn : List ℕ → Answer Stored → List ℕ
 partIn image (refused n p) = []
 partIn image (accepted s) = partOf image s
@@ -104,9 +104,15 @@ physicalOutcome image group channel row = outcomeOf do
 abbrev pub program-most : ℕ
 program-most = 32768
 
--- the function under it: copy, but a longer image is 1 at 0, whatever it holds
+-- copying, but a longer image is 1 at 0, whatever it holds
+unfoldable pub programming : List ℕ → ℕ → Answer Reading
+programming image room = do
+  _ ← require (leb (length image) program-most) 1 0
+  copying image room
+
+-- the function under it
 unfoldable pub programOutcome : List ℕ → List ℕ → CopyOutcome
-programOutcome image out = cond (ltb program-most (length image)) (copied (refused 1 0) out) (copyOutcome image out)
+programOutcome image out = copied (programming image (length out)) out
 
 -- the decimal digits of a number, of which a 64-bit one has 20 at most
 abbrev pub digits : ℕ → ℕ → List ℕ → List ℕ
@@ -124,6 +130,6 @@ abbrev pub printed : Answer Reading → List ℕ
 printed (refused n p) = line n p
 printed (accepted r) = canonicalCopy r
 
--- what it writes for what it read
+-- what it writes to standard output
 unfoldable pub programOutput : List ℕ → List ℕ
-programOutput image = cond (ltb program-most (length image)) (line 1 0) (printed (copying image program-most))
+programOutput image = printed (programming image program-most)

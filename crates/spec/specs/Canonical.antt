@@ -8,7 +8,7 @@ use Rattle.spec.specs.Bytes.{bytesOf, join}
 use Rattle.spec.specs.Block.{Kind, identifier, CC, TX, PR, CE, head-size, ID-size, HD-written, DG-written, CG-written, CN-written, HdBlock, writeHd, DgBlock, writeDg, CgBlock, writeCg, CnBlock, writeCn}
 use Rattle.spec.specs.Reading.{Body, Channel, Group, Reading, version}
 
--- ---- lengths: written sizes and record bytes, added up (4.3)
+-- ---- lengths (4.3)
 
 abbrev pub bodyLength : Body → ℕ
 bodyLength none = 0
@@ -114,7 +114,7 @@ channelsPlace p g = groupCommentPlace p g + bodyLength (g .comment)
 abbrev pub recordsPlace : ℕ → Group → ℕ
 recordsPlace p g = channelsPlace p g + channelsLength (g .channels)
 
--- one group to a data group, mode 0, record ID 0; no trigger and no sample reduction is carried (4.2)
+-- every group has a data group of its own; triggers and sample reductions are not carried (4.2)
 abbrev pub dgOf : ℕ → Option ℕ → Group → DgBlock
 dgOf p next g =
     record {

@@ -10,4 +10,4 @@ pub mod Sample
 pub mod Call
 pub mod WellFormed
 pub mod Demand3
-pub mod Posting
+pub mod Example

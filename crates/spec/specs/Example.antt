@@ -1,13 +1,13 @@
 -- Worked examples: images built byte by byte, and what each call gives for them. Document 01, Postings to agree with; docs/RULES.md, 10.
--- Every example of the first table is marked in document 01. The second table has examples of our own, so that each refusal and each kind of sample has one.
+-- The first table has every example that document 01 marks. The others are ours, for refusals, layout and samples. Too large to compute here: 1, 12, and 7 for channels.
 -- Assumes nothing.
 use Prim.Native.Nat.{ℕ, zero, suc, _+_, _%_}
 use mathlib.Core.Path.{_≡_}
-use mathlib.Core.Bool.{Bool, true, false}
+use mathlib.Core.Bool.{true, false}
 use mathlib.Core.List.{List, [], _∷_, _++_, map}
-use mathlib.Core.Option.{Option, none, some}
+use mathlib.Core.Option.{none, some}
 use lib.ListN.{length, replicate}
-use lib.IntN.{ℤ, pos, negsuc}
+use lib.IntN.{pos, negsuc}
 use lib.Ieee.{Float, nan, inf, fin}
 use Rattle.spec.specs.Bytes.{bytesOf, join}
 use Rattle.spec.specs.Answer.{Answer, accepted, mapAnswer}
@@ -18,15 +18,15 @@ use Rattle.spec.specs.Call.{Outcome, CopyOutcome, checkOutcome, copyOutc
 
 -- ---- what an example says
 
-pub data Posting : Type 0 where
-  checked : List ℕ → ℕ → ℕ → Posting  -- image; number and place of check
-  recorded : List ℕ → List (List (List ℕ)) → Posting  -- image; the records of each group of its reading
-  copies : List ℕ → List ℕ → CopyOutcome → Posting  -- image, output memory; what copy gives and leaves
-  sampled : List ℕ → Outcome Raw → Posting  -- image; its sample 0 of channel 0 of group 0
-  asked : List ℕ → ℕ → ℕ → ℕ → ℕ → ℕ → Posting  -- image, group, channel, record; number and place of sample
-  parted : List ℕ → List ℕ → Posting  -- image; the part that is its sample 0, 0, 0
-  converts : List ℕ → Outcome Float → Posting  -- image; the physical value of its sample 0, 0, 0
-  prints : List ℕ → List ℕ → Posting  -- standard input, standard output of the program
+pub data Example : Type 0 where
+  checked : List ℕ → ℕ → ℕ → Example  -- image; number and place of check
+  recorded : List ℕ → List (List (List ℕ)) → Example  -- image; the records of each group of its reading
+  copies : List ℕ → List ℕ → CopyOutcome → Example  -- image, output memory; what copy gives and leaves
+  sampled : List ℕ → Outcome Raw → Example  -- image; its sample 0 of channel 0 of group 0
+  asked : List ℕ → ℕ → ℕ → ℕ → ℕ → ℕ → Example  -- image, group, channel, record; number and place of sample
+  parted : List ℕ → List ℕ → Example  -- image; the part that is its sample 0, 0, 0
+  converts : List ℕ → Outcome Float → Example  -- image; the physical value of its sample 0, 0, 0
+  prints : List ℕ → List ℕ → Example  -- standard input, standard output of the program
 
 abbrev pub recordsRead : Reading → List (List (List ℕ))
 recordsRead r = map (λ (g : Group). g .records) (r .groups)
@@ -40,7 +40,7 @@ pub data Result : Type 0 where
   bytesResult : List ℕ → Result
 
 -- what the definitions give
-abbrev pub given : Posting → Result
+abbrev pub given : Example → Result
 given (checked image number place) = numbersResult (checkOutcome image .number) (checkOutcome image .place)
 given (recorded image rows) = recordsResult (mapAnswer recordsRead (reads image))
 given (copies image memory outcome) = copyResult (copyOutcome image memory)
@@ -51,7 +51,7 @@ given (converts image outcome) = floatResult (physicalOutcome image 0 0 0)
 given (prints input output) = bytesResult (programOutput input)
 
 -- what the example says
-abbrev pub expected : Posting → Result
+abbrev pub expected : Example → Result
 expected (checked image number place) = numbersResult number place
 expected (recorded image rows) = recordsResult (accepted rows)
 expected (copies image memory outcome) = copyResult outcome
@@ -62,7 +62,7 @@ expected (converts image outcome) = floatResult outcome
 expected (prints input output) = bytesResult output
 
 -- every example of a table agrees with the definitions
-abbrev pub Agree : List Posting → Type 0
+abbrev pub Agree : List Example → Type 0
 Agree table = map given table ≡ map expected table
 
 abbrev pub success : {A : Type 0} → A → Outcome A
@@ -206,7 +206,7 @@ room n = replicate n 0x5A
 
 -- ---- the marked examples
 
-unfoldable pub marked : List Posting
+unfoldable pub marked : List Example
 marked =
     checked [] 2 0
     ∷ checked (counting 77 63) 2 0
@@ -227,9 +227,9 @@ marked =
     ∷ sampled (oneRecord 16 57 64 0 (zeros 16)) (refusal 15 476)
     ∷ []
 
--- proved in proofs/Postings.antt
-abbrev pub MarkedPostingsAgree : Type 0
-MarkedPostingsAgree = Agree marked
+-- proved in proofs/Examples.antt
+abbrev pub MarkedExamplesAgree : Type 0
+MarkedExamplesAgree = Agree marked
 
 -- ---- examples of our own
 
@@ -296,11 +296,11 @@ shortLaterCopy = join (idBlock mdf 0 0 320 ∷ (72 ∷ 68 ∷ []) ∷ bytesOf 2 
 abbrev pub longHeader : List ℕ
 longHeader = join (id300 ∷ (72 ∷ 68 ∷ []) ∷ bytesOf 2 208 ∷ zeros 14 ∷ counting 100 146 ∷ counting 1 44 ∷ [])
 
--- a record of 4 bytes, its channel with a CC at 518
+-- one record, and behind it the CC of its channel
 abbrev pub withConversion : ℕ → ℕ → List ℕ → List ℕ → List ℕ
 withConversion bits dataType bytes cc = oneGroup (length bytes) 1 (cnBlock (links4 (514 + length bytes) 0 0 0) 0 0 bits dataType (zeros 10)) (bytes ++ cc)
 
--- P1, P2: 0.0 and 40.0; infinity; 1.0
+-- 64-bit floats: 0.0, 40.0, infinity, the largest finite one
 abbrev pub f64-zero : List ℕ
 f64-zero = zeros 8
 
@@ -314,11 +314,11 @@ abbrev pub f64-most : List ℕ
 f64-most = bytesOf 8 0x7FEFFFFFFFFFFFFF
 
 -- a text of 20,000 bytes shared by the file and by one group
-abbrev pub swollen : List ℕ
-swollen = join (id300 ∷ hdBlock 228 286 0 1 ∷ dgBlock 0 256 0 0 1 0 ∷ cgBlock 0 0 286 0 0 0 0 0 ∷ text (zeros 19996) ∷ [])
+abbrev pub sharedText : List ℕ
+sharedText = join (id300 ∷ hdBlock 228 286 0 1 ∷ dgBlock 0 256 0 0 1 0 ∷ cgBlock 0 0 286 0 0 0 0 0 ∷ text (zeros 19996) ∷ [])
 
 -- Of endless lists, the 1,025th data group is reached from the second of two, the 1,025th channel group from a data group that has two.
-unfoldable pub checks : List Posting
+unfoldable pub checks : List Example
 checks =
     checked (idBlock (77 ∷ 68 ∷ 70 ∷ 32 ∷ 32 ∷ 32 ∷ 32 ∷ 0 ∷ []) 0 0 300 ++ hdBlock 0 0 0 0) 2 0
     ∷ checked (idBlock (85 ∷ 110 ∷ 70 ∷ 105 ∷ 110 ∷ 77 ∷ 70 ∷ 32 ∷ []) 0 0 300 ++ hdBlock 0 0 0 0) 3 0
@@ -372,7 +372,7 @@ checks =
     ∷ checked (twoGroups 2 (1 ∷ 0xAA ∷ 0xBB ∷ 1 ∷ 2 ∷ 0xCC ∷ 2 ∷ 1 ∷ 0xDD ∷ 0xEE ∷ [])) 11 551
     ∷ []
 
-unfoldable pub others : List Posting
+unfoldable pub others : List Example
 others =
     copies everything (room 602) (record { given = success 601; memory = everythingCopy ++ room 1 })
     ∷ copies everythingCopy (room 601) (record { given = success 601; memory = everythingCopy })
@@ -430,11 +430,11 @@ others =
     ∷ prints plain300 plain300
     ∷ prints id300 (53 ∷ 32 ∷ 54 ∷ 52 ∷ 10 ∷ [])
     ∷ prints (zeros 32769) (49 ∷ 32 ∷ 48 ∷ 10 ∷ [])
-    ∷ prints swollen (49 ∷ 51 ∷ 32 ∷ 52 ∷ 48 ∷ 50 ∷ 56 ∷ 54 ∷ 10 ∷ [])
+    ∷ prints sharedText (49 ∷ 51 ∷ 32 ∷ 52 ∷ 48 ∷ 50 ∷ 56 ∷ 54 ∷ 10 ∷ [])
     ∷ []
 
-abbrev pub OwnPostingsAgree : Type 0
-OwnPostingsAgree = Agree checks × Agree others
+abbrev pub OwnExamplesAgree : Type 0
+OwnExamplesAgree = Agree checks × Agree others
 
 -- ---- readings that differ
 

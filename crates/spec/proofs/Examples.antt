@@ -16,23 +16,23 @@ use Rattle.spec.specs.Found.{readingOf}
 use Rattle.spec.specs.Walk.{fieldsPass, formulaPasses, conversionAt, channelAt, channelList, groupList, dataGroupList, fileFrom, identPasses, walk, reads}
 use Rattle.spec.specs.Canonical.{channelLength, copyLength, channelBytes, channelsBytes, groupBytes, groupsBytes, canonicalCopy}
 use Rattle.spec.specs.Sample.{pattern, storedAs, storedSample, signedOf, rawValue, partOf, numberOf, linear, converted, physicalValue}
-use Rattle.spec.specs.Call.{checkOutcome, copying, copyOutcome, asking, sampling, rawOutcome, partOutcome, physicalOutcome, programOutput}
-use Rattle.spec.specs.Posting.{Agree, marked, MarkedPostingsAgree, checks, others, OwnPostingsAgree, AbsentIsNotEmpty, MovedRecordIsSeen}
+use Rattle.spec.specs.Call.{checkOutcome, copying, copyOutcome, asking, sampling, rawOutcome, partOutcome, physicalOutcome, programming, programOutput}
+use Rattle.spec.specs.Example.{Agree, marked, MarkedExamplesAgree, checks, others, OwnExamplesAgree, AbsentIsNotEmpty, MovedRecordIsSeen}
 
-pub marked-postings-agree : MarkedPostingsAgree
+pub marked-examples-agree : MarkedExamplesAgree
 unfolding marked field _>>=_ require present opening openBlock bodyAt readHd writeHd readDg writeDg readCg writeCg readCn writeCn inOrder byID logFrom logOf readingOf fieldsPass formulaPasses conversionAt channelAt channelList groupList dataGroupList fileFrom identPasses walk reads channelLength copyLength channelBytes channelsBytes groupBytes groupsBytes canonicalCopy pattern storedAs storedSample signedOf rawValue checkOutcome copying copyOutcome asking sampling rawOutcome
-marked-postings-agree = refl
+marked-examples-agree = refl
 
 own-checks : Agree checks
 unfolding checks field _>>=_ require present opening openBlock bodyAt readHd writeHd readDg writeDg readCg writeCg readCn writeCn inOrder byID logFrom logOf readingOf fieldsPass formulaPasses conversionAt channelAt channelList groupList dataGroupList fileFrom identPasses walk reads channelLength copyLength channelBytes channelsBytes groupBytes groupsBytes canonicalCopy pattern storedAs storedSample signedOf rawValue checkOutcome copying copyOutcome asking sampling rawOutcome
 own-checks = refl
 
 own-others : Agree others
-unfolding others field _>>=_ require present opening openBlock bodyAt readHd writeHd readDg writeDg readCg writeCg readCn writeCn inOrder byID logFrom logOf readingOf fieldsPass formulaPasses conversionAt channelAt channelList groupList dataGroupList fileFrom identPasses walk reads channelLength copyLength channelBytes channelsBytes groupBytes groupsBytes canonicalCopy pattern storedAs storedSample signedOf rawValue checkOutcome copying copyOutcome asking sampling rawOutcome partOf numberOf linear converted physicalValue partOutcome physicalOutcome programOutput ofBits ofInt add mul
+unfolding others field _>>=_ require present opening openBlock bodyAt readHd writeHd readDg writeDg readCg writeCg readCn writeCn inOrder byID logFrom logOf readingOf fieldsPass formulaPasses conversionAt channelAt channelList groupList dataGroupList fileFrom identPasses walk reads channelLength copyLength channelBytes channelsBytes groupBytes groupsBytes canonicalCopy pattern storedAs storedSample signedOf rawValue checkOutcome copying copyOutcome asking sampling rawOutcome partOf numberOf linear converted physicalValue partOutcome physicalOutcome programming programOutput ofBits ofInt add mul
 own-others = refl
 
-pub own-postings-agree : OwnPostingsAgree
-own-postings-agree = (own-checks, own-others)
+pub own-examples-agree : OwnExamplesAgree
+own-examples-agree = (own-checks, own-others)
 
 -- ---- readings that differ
 

@@ -1,0 +1,292 @@
+// Numbers and blocks of an image. Every function takes any place: a byte beyond the image's end reads as 0.
+ghost use mathlib.Core.Path.{_≡_};
+ghost use Prim.Native.Nat.{ℕ, _+_, _^_, _≤_, _<_};
+ghost use lib.ListN.{length, getD};
+ghost use Rattle.spec.specs.Bytes.{u16, u32, u64, toLink};
+ghost use Rattle.spec.specs.Block.{imageOf, opening, bodyAt, HD, DG, CG, CN, CC, TX, PR, CE};
+ghost use Rattle.image.specs.Spans.{numberAt, kindOf, blockOf, blockIn, Inside, fieldNumber, stepOf};
+
+// ---- numbers
+
+fn wide(x: u8) -> u64
+    ensures { λ r. ⌜ (r ≡ x) × (r < 256) ⌝ }
+{
+    x as u64
+}
+
+pub fn byte(image: &[u8], at: usize) -> u64
+    ensures { λ r. ⌜ (r ≡ getD (now (image .entry)) at 0) × (r < 256) ⌝ }
+{
+    if at < image.len() { wide(image[at]) } else { 0 }
+}
+
+// The number of n bytes, the lowest first.
+pub fn number(image: &[u8], at: usize, n: usize) -> u64
+    requires { ⌜ n ≤ 8 ⌝ }
+    ensures { λ r. ⌜ (r ≡ numberAt (now (image .entry)) at n) × (r < 256 ^ n) ⌝ }
+{
+    // so that no place below can wrap
+    if image.len() <= at {
+        return 0;
+    }
+    let mut v: u64 = 0;
+    let mut k = n;
+    while 0 < k {
+        k -= 1;
+        v = v * 256 + byte(image, at + k);
+    }
+    v
+}
+
+// ---- blocks
+
+// Where an opened block stands, and its size.
+pub struct Span {
+    pub at: usize,
+    pub size: usize,
+}
+
+pub enum Block {
+    Open(Span),
+    Shut,
+}
+
+// The block at a place, where it opens: its identifier as a number of two bytes, its least size.
+fn open_block(image: &[u8], at: usize, id: u64, least: usize) -> Block
+    ensures { λ r. ⌜ r ≡ blockOf at (opening (kindOf id least) (imageOf (now (image .entry))) at) ⌝ }
+{
+    if image.len() < 4 {
+        return Block::Shut;
+    }
+    if image.len() - 4 < at {
+        return Block::Shut;
+    }
+    if byte(image, at) != id % 256 {
+        return Block::Shut;
+    }
+    if byte(image, at + 1) != id / 256 {
+        return Block::Shut;
+    }
+    let size = number(image, at + 2, 2) as usize;
+    if size < least {
+        return Block::Shut;
+    }
+    if image.len() - at < size {
+        return Block::Shut;
+    }
+    Block::Open(Span { at, size })
+}
+
+// ---- fields of an opened block
+
+// A field of n bytes as a number: zero where the block does not hold it whole.
+fn number_in(image: &[u8], b: Span, offset: usize, n: usize) -> u64
+    requires { ⌜ (n ≤ 8) × (offset < 65536) × Inside (now image) b ⌝ }
+    ensures { λ r. ⌜ (r ≡ fieldNumber (now (image .entry)) b offset n) × (r < 256 ^ n) ⌝ }
+{
+    if b.size < offset + n {
+        return 0;
+    }
+    let at = b.at;
+    number(image, at + offset, n)
+}
+
+pub fn u16_in(image: &[u8], b: Span, offset: usize) -> usize
+    requires { ⌜ (offset < 65536) × Inside (now image) b ⌝ }
+    ensures { λ r. ⌜ (r ≡ u16 offset (blockIn (now (image .entry)) b)) × (r < 65536) ⌝ }
+{
+    number_in(image, b, offset, 2) as usize
+}
+
+pub fn u32_in(image: &[u8], b: Span, offset: usize) -> usize
+    requires { ⌜ (offset < 65536) × Inside (now image) b ⌝ }
+    ensures { λ r. ⌜ (r ≡ u32 offset (blockIn (now (image .entry)) b)) × (r < 4294967296) ⌝ }
+{
+    number_in(image, b, offset, 4) as usize
+}
+
+pub fn u64_in(image: &[u8], b: Span, offset: usize) -> u64
+    requires { ⌜ (offset < 65536) × Inside (now image) b ⌝ }
+    ensures { λ r. ⌜ r ≡ u64 offset (blockIn (now (image .entry)) b) ⌝ }
+{
+    number_in(image, b, offset, 8)
+}
+
+// ---- steps of a check
+
+// Passed, or refused with a number and a place.
+pub enum Step {
+    Go,
+    Stop(u64, usize),
+}
+
+// ---- the kinds of block: identifier as a number of two bytes, least and written size. Those without a written size are written at their own.
+
+// The header, at 64.
+pub struct Hd;
+
+impl Hd {
+    pub const ID: u64 = 0x4448;
+
+    pub const LEAST: usize = 164;
+    // The size written below version 320, and from it on.
+    pub const WRITTEN: usize = 164;
+
+    pub const WRITTEN_320: usize = 208;
+
+    pub fn open(image: &[u8], at: usize) -> Block
+        ensures { λ r. ⌜ r ≡ blockOf at (opening HD (imageOf (now (image .entry))) at) ⌝ }
+    {
+        open_block(image, at, Self::ID, Self::LEAST)
+    }
+}
+
+// A data group.
+pub struct Dg;
+
+impl Dg {
+    pub const ID: u64 = 0x4744;
+
+    pub const LEAST: usize = 24;
+
+    pub const WRITTEN: usize = 28;
+
+    pub fn open(image: &[u8], at: usize) -> Block
+        ensures { λ r. ⌜ r ≡ blockOf at (opening DG (imageOf (now (image .entry))) at) ⌝ }
+    {
+        open_block(image, at, Self::ID, Self::LEAST)
+    }
+}
+
+// A channel group.
+pub struct Cg;
+
+impl Cg {
+    pub const ID: u64 = 0x4743;
+
+    pub const LEAST: usize = 26;
+
+    pub const WRITTEN: usize = 30;
+
+    pub fn open(image: &[u8], at: usize) -> Block
+        ensures { λ r. ⌜ r ≡ blockOf at (opening CG (imageOf (now (image .entry))) at) ⌝ }
+    {
+        open_block(image, at, Self::ID, Self::LEAST)
+    }
+}
+
+// A channel.
+pub struct Cn;
+
+impl Cn {
+    pub const ID: u64 = 0x4E43;
+
+    pub const LEAST: usize = 218;
+
+    pub const WRITTEN: usize = 228;
+
+    pub fn open(image: &[u8], at: usize) -> Block
+        ensures { λ r. ⌜ r ≡ blockOf at (opening CN (imageOf (now (image .entry))) at) ⌝ }
+    {
+        open_block(image, at, Self::ID, Self::LEAST)
+    }
+}
+
+// A conversion.
+pub struct Cc;
+
+impl Cc {
+    pub const ID: u64 = 0x4343;
+
+    pub const LEAST: usize = 46;
+
+    pub fn open(image: &[u8], at: usize) -> Block
+        ensures { λ r. ⌜ r ≡ blockOf at (opening CC (imageOf (now (image .entry))) at) ⌝ }
+    {
+        open_block(image, at, Self::ID, Self::LEAST)
+    }
+}
+
+// A channel extension.
+pub struct Ce;
+
+impl Ce {
+    pub const ID: u64 = 0x4543;
+
+    pub const LEAST: usize = 6;
+
+    pub fn open(image: &[u8], at: usize) -> Block
+        ensures { λ r. ⌜ r ≡ blockOf at (opening CE (imageOf (now (image .entry))) at) ⌝ }
+    {
+        open_block(image, at, Self::ID, Self::LEAST)
+    }
+
+    // The body behind a link, refused at the link's field.
+    pub fn body(image: &[u8], field: usize, link: usize) -> Step
+        ensures { λ r. ⌜ r ≡ stepOf (bodyAt CE (imageOf (now (image .entry))) field (toLink link)) ⌝ }
+    {
+        if link == 0 {
+            return Step::Go;
+        }
+        let Block::Open(_b) = Ce::open(image, link) else {
+            return Step::Stop(5, field);
+        };
+        Step::Go
+    }
+}
+
+// A text.
+pub struct Tx;
+
+impl Tx {
+    pub const ID: u64 = 0x5854;
+
+    pub const LEAST: usize = 4;
+
+    pub fn open(image: &[u8], at: usize) -> Block
+        ensures { λ r. ⌜ r ≡ blockOf at (opening TX (imageOf (now (image .entry))) at) ⌝ }
+    {
+        open_block(image, at, Self::ID, Self::LEAST)
+    }
+
+    // The body behind a link, refused at the link's field.
+    pub fn body(image: &[u8], field: usize, link: usize) -> Step
+        ensures { λ r. ⌜ r ≡ stepOf (bodyAt TX (imageOf (now (image .entry))) field (toLink link)) ⌝ }
+    {
+        if link == 0 {
+            return Step::Go;
+        }
+        let Block::Open(_b) = Tx::open(image, link) else {
+            return Step::Stop(5, field);
+        };
+        Step::Go
+    }
+}
+
+// Program data.
+pub struct Pr;
+
+impl Pr {
+    pub const ID: u64 = 0x5250;
+
+    pub const LEAST: usize = 4;
+
+    pub fn open(image: &[u8], at: usize) -> Block
+        ensures { λ r. ⌜ r ≡ blockOf at (opening PR (imageOf (now (image .entry))) at) ⌝ }
+    {
+        open_block(image, at, Self::ID, Self::LEAST)
+    }
+
+    // The body behind a link, refused at the link's field.
+    pub fn body(image: &[u8], field: usize, link: usize) -> Step
+        ensures { λ r. ⌜ r ≡ stepOf (bodyAt PR (imageOf (now (image .entry))) field (toLink link)) ⌝ }
+    {
+        if link == 0 {
+            return Step::Go;
+        }
+        let Block::Open(_b) = Pr::open(image, link) else {
+            return Step::Stop(5, field);
+        };
+        Step::Go
+    }
+}
