@@ -11,12 +11,12 @@ use lib.Seq.{length-take-le}
 use borrow.Author.Tests.{leb-true}
 use Rattle.spec.specs.Bytes.{toLink}
 use Rattle.spec.specs.Answer.{Answer, refused, accepted, _>>=_, require, atPlace}
-use Rattle.spec.specs.Block.{Kind, Image, sizeAt, opening, openBlock, Opened, openAs, bodyOf, bodyAt}
+use Rattle.spec.specs.Block.{Kind, Image, sizeAt, opening, openBlock, openAs, bodyOf, bodyAt}
 use Rattle.spec.proofs.Answers.{step, stop, Gives, gives, bind, test}
 use Rattle.image.specs.declared.Span.{Span}
 use Rattle.image.specs.declared.Block.the-variants.{Open, Shut}
 use Rattle.image.specs.declared.Step.the-variants.{Go, Stop}
-use Rattle.image.specs.Spans.{blockOf, blockIn, Inside, stepOf}
+use Rattle.image.specs.Spans.{blockOf, blockIn, Inside, openedAs, stepOf}
 
 pub not-nil : (p : ℕ) → (p ≡ 0 → ⊥) → toLink p ≡ some p
 not-nil zero h = absurd (h refl)
@@ -63,10 +63,6 @@ stands k image p b = go (opening k image p) refl
         let s = opening-stands k image p .given x o in
         let i : b ≡ record { at = p; size = length x } = cc in
         rw i (record { is = o ∙ ap accepted (s .0); place = refl; inside = s .1; least = s .2 })
-
--- what is read of it
-abbrev pub openedAs : {A : Type 0} → (List ℕ → A) → List ℕ → Span → Opened A
-openedAs read image b = record { place = b .at; size = b .size; content = read (blockIn image b) }
 
 module _ {A : Type 0} (k : Kind) (read : List ℕ → A) (image : Image) (linkField p : ℕ) where
   pub open-shut : Shut ≡ blockOf p (opening k image p) → openAs k read image linkField p ≡ refused 5 linkField

@@ -12,7 +12,7 @@ use Rattle.spec.proofs.Places.{field-in}
 use Rattle.image.specs.declared.Span.{Span}
 use Rattle.image.specs.Spans.{numberAt, blockIn, Inside, fieldNumber}
 
-drop-take : (off n size : ℕ) (xs : List ℕ) → off + n ≤ size → take n (drop off (take size xs)) ≡ take n (drop off xs)
+pub drop-take : (off n size : ℕ) (xs : List ℕ) → off + n ≤ size → take n (drop off (take size xs)) ≡ take n (drop off xs)
 drop-take zero n size xs h = take-take n size xs (omega arith)
 drop-take (suc off) n zero xs h = absurd (omega arith)
 drop-take (suc off) n (suc size) [] h = refl

@@ -5,7 +5,7 @@ use mathlib.Core.List.{List}
 use lib.ListN.{length, take, drop}
 use Rattle.spec.specs.Bytes.{number, field}
 use Rattle.spec.specs.Answer.{Answer, refused, accepted}
-use Rattle.spec.specs.Block.{Kind}
+use Rattle.spec.specs.Block.{Kind, Opened}
 use Rattle.image.specs.declared.Span.{Span}
 use Rattle.image.specs.declared.Block.{Block}
 use Rattle.image.specs.declared.Block.the-variants.{Open, Shut}
@@ -40,3 +40,7 @@ fieldNumber image b offset n = number (field n offset (blockIn image b))
 abbrev pub stepOf : {A : Type 0} → Answer A → Step
 stepOf (refused n p) = Stop n p
 stepOf (accepted a) = Go
+
+-- an opened block as its reader gives it
+abbrev pub openedAs : {A : Type 0} → (List ℕ → A) → List ℕ → Span → Opened A
+openedAs read image b = record { place = b .at; size = b .size; content = read (blockIn image b) }

@@ -1,0 +1,174 @@
+-- What the code's tests say of a channel.
+-- Assumes nothing.
+use Prim.Native.Nat.{ℕ, zero, suc, _+_, _*_, _-_, _≤_, _<_}
+use mathlib.Core.Path.{_≡_, refl, sym, _∙_, ap}
+use mathlib.Core.Bool.{Bool, true, false, not, _||_, or-true}
+use mathlib.Core.List.{List, [], _∷_}
+use mathlib.Core.Option.{Option, none, some}
+use native.Mathlib.Omega.{arith}
+use lib.Dec.{leb, eqb}
+use lib.ListN.{length, take, drop, length-drop}
+use lib.Seq.{drop-drop, length-take-le}
+use borrow.Author.Tests.{le-leb, lt-leb, eq-eqb, ne-eqb}
+use Rattle.spec.specs.Bytes.{number, field, u16, toLink, isNil}
+use Rattle.spec.specs.Answer.{Answer, refused, accepted, _>>=_, require}
+use Rattle.spec.specs.Block.{Image, CC, opening, Opened, bodyOf, bodyAt, formula, Fields, readFields, channelType, startBit, bitCount, dataType, addedOffset, CnBlock}
+use Rattle.spec.specs.Walk.{bitsFit, fieldsPass, formulaPasses, conversionAt, channelAt}
+use Rattle.spec.proofs.Answers.{step, pass, stop, fail}
+use Rattle.spec.proofs.Places.{field-in}
+use Rattle.image.specs.declared.Span.{Span}
+use Rattle.image.specs.declared.Block.the-variants.{Open, Shut}
+use Rattle.image.specs.declared.Step.{Step}
+use Rattle.image.specs.declared.Step.the-variants.{Go, Stop}
+use Rattle.image.specs.Spans.{blockOf, blockIn, Inside, stepOf}
+use Rattle.image.proofs.Fields.{block-length, drop-take}
+use Rattle.image.proofs.Blocks.{not-nil, Stands, stands, body-shut, body-open}
+use Rattle.walk.specs.Steps.{_then_, HoldsCn, bodiesFirst, bodiesLast}
+
+-- ---- steps
+
+pub then-of : {A B : Type 0} (m : Answer A) (f : A → Answer B) (s : Step) → ((a : A) → stepOf (f a) ≡ s) → stepOf (m >>= f) ≡ (stepOf m then s)
+unfolding _>>=_ _then_
+then-of (refused n p) f s h = refl
+then-of (accepted a) f s h = h a
+
+then-assoc : (a b c : Step) → ((a then b) then c) ≡ (a then (b then c))
+unfolding _then_
+then-assoc Go b c = refl
+then-assoc (Stop n p) b c = refl
+
+then-go : (a : Step) → (a then Go) ≡ a
+unfolding _then_
+then-go Go = refl
+then-go (Stop n p) = refl
+
+-- a step that was taken and refused, and one that passed
+pub then-left : {a s : Step} (b : Step) {n p : ℕ} → s ≡ a → s ≡ Stop n p → s ≡ (a then b)
+unfolding _then_
+then-left b e f = f ∙ sym (ap (λ x. x then b) (sym e ∙ f))
+
+pub then-right : {a b s t : Step} → t ≡ a → t ≡ Go → s ≡ b → s ≡ (a then b)
+unfolding _then_
+then-right {b} e f h = h ∙ sym (ap (λ x. x then b) (sym e ∙ f))
+
+pub then-stops : {A B : Type 0} (m : Answer A) (f : A → Answer B) {n p : ℕ} → Stop n p ≡ stepOf m → stepOf (m >>= f) ≡ Stop n p
+unfolding _>>=_
+then-stops (refused n p) f e = sym e
+then-stops (accepted a) f e = let z : _≡_ {A = ℕ} 0 1 = cc in absurd (omega arith)
+
+pub test-stop : (t : Bool) (n p : ℕ) → t ≡ false → Stop n p ≡ stepOf (require t n p)
+unfolding require
+test-stop t n p e = rw e
+
+pub test-go : (t : Bool) (n p : ℕ) → t ≡ true → Go ≡ stepOf (require t n p)
+unfolding require
+test-go t n p e = rw e
+
+pub nil-go : (x n p : ℕ) → x ≡ 0 → Go ≡ stepOf (require (isNil (toLink x)) n p)
+nil-go x n p e = test-go _ _ _ (rw e)
+
+pub nil-stop : (x n p : ℕ) → (x ≡ 0 → ⊥) → Stop n p ≡ stepOf (require (isNil (toLink x)) n p)
+nil-stop x n p h = test-stop _ _ _ (rw (not-nil x h))
+
+-- ---- conversion
+
+formula-is : (block : List ℕ) → 44 ≤ length block → formula (bodyOf block) ≡ u16 42 block
+formula-is block h =
+    ap number (field-in 2 38 (drop 4 block) (rw length-drop (omega arith)) ∙ ap (take 2) (drop-drop 38 4 block) ∙ sym (field-in 2 42 block h))
+
+module _ (image : Image) (p l : ℕ) where
+  pub conversion-none : l ≡ 0 → Go ≡ stepOf (conversionAt image p (toLink l))
+  unfolding conversionAt bodyAt formulaPasses _>>=_
+  conversion-none e = rw e
+
+  module _ (h : l ≡ 0 → ⊥) where
+    pub conversion-shut : Shut ≡ blockOf l (opening CC image l) → Stop 5 (p + 8) ≡ stepOf (conversionAt image p (toLink l))
+    unfolding conversionAt
+    conversion-shut e = sym (then-stops (bodyAt CC image (p + 8) (toLink l)) _ (body-shut CC image (p + 8) l h e))
+
+    module _ (b : Span) (s : Stands CC image l b) where
+      formula-here : formula (bodyOf (blockIn (image .bytes) b)) ≡ u16 42 (blockIn (image .bytes) b)
+      formula-here = formula-is (blockIn (image .bytes) b) (omega (arith, block-length (image .bytes) b (s .inside), s .least))
+
+      pub formula-links : u16 42 (blockIn (image .bytes) b) ≡ 12 → Stop 6 (b .at + 42) ≡ stepOf (conversionAt image p (toLink l))
+      unfolding conversionAt formulaPasses
+      formula-links e =
+          let t : not (eqb (formula (bodyOf (blockIn (image .bytes) b))) 12) ≡ false = rw (formula-here, e) in
+          sym (ap stepOf (step _ (body-open CC image (p + 8) l h b s) (stop _ (fail _ _ _ t))))
+
+      pub formula-plain : (u16 42 (blockIn (image .bytes) b) ≡ 12 → ⊥) → Go ≡ stepOf (conversionAt image p (toLink l))
+      unfolding conversionAt formulaPasses
+      formula-plain d =
+          let t : not (eqb (formula (bodyOf (blockIn (image .bytes) b))) 12) ≡ true = rw (formula-here, ne-eqb _ _ d) in
+          sym (ap stepOf (step _ (body-open CC image (p + 8) l h b s) (step _ (pass _ _ _ t) refl)))
+
+-- ---- fields
+
+-- a number of bytes 24 to 217, read from the block
+main-u16 : (off : ℕ) (block : List ℕ) → off + 2 ≤ 194 → 218 ≤ length block → u16 (24 + off) block ≡ u16 off (readFields block .main)
+main-u16 off block o l =
+    let e : 24 + off + 2 ≤ length block = omega arith in
+    let f : length (take 194 (drop 24 block)) ≡ 194 = length-take-le 194 (drop 24 block) (rw length-drop (omega arith)) in
+    ap number
+    (field-in 2 (24 + off) block e
+    ∙ ap (take 2) (sym (drop-drop off 24 block))
+    ∙ sym (drop-take off 2 194 (drop 24 block) o)
+    ∙ sym (field-in 2 off (take 194 (drop 24 block)) (omega (arith, f)))
+    ∙ ap (field 2 off) (sym (field-in 194 24 block (omega arith))))
+
+module _ (image : List ℕ) (cn : Span) (h : HoldsCn image cn) where
+  long : 218 ≤ length (blockIn image cn)
+  long = omega (arith, block-length image cn (h .inside), h .least)
+
+  pub type-is : u16 24 (blockIn image cn) ≡ channelType (readFields (blockIn image cn))
+  type-is = main-u16 0 (blockIn image cn) (omega arith) long
+
+  pub start-is : u16 186 (blockIn image cn) ≡ startBit (readFields (blockIn image cn))
+  start-is = main-u16 162 (blockIn image cn) (omega arith) long
+
+  pub bits-is : u16 188 (blockIn image cn) ≡ bitCount (readFields (blockIn image cn))
+  bits-is = main-u16 164 (blockIn image cn) (omega arith) long
+
+  pub data-is : u16 190 (blockIn image cn) ≡ dataType (readFields (blockIn image cn))
+  data-is = main-u16 166 (blockIn image cn) (omega arith) long
+
+module _ (w : ℕ) (f : Fields) where
+  pub bits-none : bitCount f ≡ 0 → true ≡ bitsFit w f
+  bits-none e = rw (eq-eqb (bitCount f) 0 e)
+
+  pub bits-some : (bitCount f ≡ 0 → ⊥) → leb (startBit f + 8 * addedOffset f + bitCount f) (8 * w) ≡ bitsFit w f
+  bits-some d = rw (ne-eqb (bitCount f) 0 d)
+
+  module _ (p : ℕ) where
+    pub wrong-type : 1 < channelType f → Stop 9 (p + 24) ≡ stepOf (fieldsPass w p f)
+    unfolding fieldsPass
+    wrong-type h = sym (then-stops _ _ (test-stop _ _ _ (lt-leb _ _ h)))
+
+    module _ (h₁ : channelType f ≤ 1) where
+      pub wrong-bits : bitsFit w f ≡ false → Stop 9 (p + 186) ≡ stepOf (fieldsPass w p f)
+      unfolding fieldsPass
+      wrong-bits e = sym (ap stepOf (step _ (pass _ _ _ (le-leb _ _ h₁)) (stop _ (fail _ _ _ e))))
+
+      module _ (h₂ : bitsFit w f ≡ true) where
+        pub wrong-data : 16 < dataType f → Stop 9 (p + 190) ≡ stepOf (fieldsPass w p f)
+        unfolding fieldsPass
+        wrong-data h = sym (ap stepOf (step _ (pass _ _ _ (le-leb _ _ h₁)) (step _ (pass _ _ _ h₂) (fail _ _ _ (lt-leb _ _ h)))))
+
+        pub fields-good : dataType f ≤ 16 → Go ≡ stepOf (fieldsPass w p f)
+        unfolding fieldsPass
+        fields-good h = sym (ap stepOf (step _ (pass _ _ _ (le-leb _ _ h₁)) (step _ (pass _ _ _ h₂) (pass _ _ _ (le-leb _ _ h)))))
+
+-- ---- the whole channel
+
+pub channel-steps : (image : Image) (size : ℕ) (cn : Opened CnBlock)
+    → stepOf (channelAt image size cn) ≡ (bodiesFirst image cn then (stepOf (fieldsPass size (cn .place) (cn .content .fields)) then bodiesLast image cn))
+unfolding channelAt bodiesFirst bodiesLast
+channel-steps image size cn =
+    then-of _ _ _
+    (λ conversion. then-of _ _ _
+    (λ extension. then-of _ _ _
+    (λ _. then-of _ _ _
+    (λ comment. then-of _ _ _
+    (λ _. then-of _ _ _
+    (λ longName. then-of _ _ Go (λ displayName. refl)))))))
+    ∙ simp (then-assoc, then-go)

@@ -1,0 +1,227 @@
+// The walk over an image, against the definitions of `spec`: refusals 1 to 11.
+use image::Block;
+use image::Cc;
+use image::Ce;
+use image::Cn;
+use image::Span;
+use image::Step;
+use image::Tx;
+ghost use mathlib.Core.Path.{_≡_};
+ghost use Prim.Native.Nat.{ℕ, _+_, _≤_, _<_};
+ghost use lib.ListN.{length};
+ghost use Rattle.spec.specs.Bytes.{toLink};
+ghost use Rattle.spec.specs.Block.{imageOf, readCn, readFields};
+ghost use Rattle.spec.specs.Walk.{bitsFit, fieldsPass, conversionAt, channelAt};
+ghost use Rattle.image.specs.Spans.{blockIn, Inside, stepOf, openedAs};
+ghost use Rattle.walk.specs.Steps.{HoldsCn, bodiesFirst, bodiesLast};
+ghost use Rattle.walk.specs.Lists.{StandsAt, channelsFrom, channelsMet, OnlyChannels};
+
+// ---- a channel
+
+// The CC behind its link in the CN block at a place, and its formula.
+fn conversion(image: &[u8], at: usize, link: usize) -> Step
+    requires { ⌜ at + 8 ≤ length (now image) ⌝ }
+    ensures { λ r. ⌜ r ≡ stepOf (conversionAt (imageOf (now (image .entry))) at (toLink link)) ⌝ }
+{
+    if link == 0 {
+        return Step::Go;
+    }
+    let Block::Open(cc) = Cc::open(image, link) else {
+        return Step::Stop(5, at + 8);
+    };
+    if image::u16_in(image, cc, 42) == 12 {
+        return Step::Stop(6, cc.at + 42);
+    }
+    Step::Go
+}
+
+// Whether the bits of a channel lie in a record of this size.
+fn bits_fit(image: &[u8], cn: Span, width: usize) -> bool
+    requires { ⌜ HoldsCn (now image) cn × (width < 65536) ⌝ }
+    ensures { λ r. ⌜ r ≡ bitsFit width (readFields (blockIn (now (image .entry)) cn)) ⌝ }
+{
+    let bits = image::u16_in(image, cn, 188);
+    if bits == 0 {
+        return true;
+    }
+    let start = image::u16_in(image, cn, 186);
+    let added = image::u16_in(image, cn, 226);
+    start + 8 * added + bits <= 8 * width
+}
+
+// Type, bits and data type of a channel.
+fn fields_pass(image: &[u8], cn: Span, width: usize) -> Step
+    requires { ⌜ HoldsCn (now image) cn × (width < 65536) ⌝ }
+    ensures { λ r. ⌜ r ≡ stepOf (fieldsPass width (cn .at) (readFields (blockIn (now (image .entry)) cn))) ⌝ }
+{
+    let at = cn.at;
+    if 1 < image::u16_in(image, cn, 24) {
+        return Step::Stop(9, at + 24);
+    }
+    if !bits_fit(image, cn, width) {
+        return Step::Stop(9, at + 186);
+    }
+    if 16 < image::u16_in(image, cn, 190) {
+        return Step::Stop(9, at + 190);
+    }
+    Step::Go
+}
+
+// What a channel links to before its fields are tested: conversion, extension, dependency, comment.
+fn channel_first(image: &[u8], cn: Span) -> Step
+    requires { ⌜ HoldsCn (now image) cn ⌝ }
+    ensures { λ r. ⌜ r ≡ bodiesFirst (imageOf (now (image .entry))) (openedAs readCn (now (image .entry)) cn) ⌝ }
+{
+    let at = cn.at;
+    let cc = conversion(image, at, image::u32_in(image, cn, 8));
+    let Step::Go = cc else {
+        return cc;
+    };
+    let ce = Ce::body(image, at + 12, image::u32_in(image, cn, 12));
+    let Step::Go = ce else {
+        return ce;
+    };
+    if image::u32_in(image, cn, 16) != 0 {
+        return Step::Stop(6, at + 16);
+    }
+    Tx::body(image, at + 20, image::u32_in(image, cn, 20))
+}
+
+// And after that: long name, display name.
+fn channel_last(image: &[u8], cn: Span) -> Step
+    requires { ⌜ HoldsCn (now image) cn ⌝ }
+    ensures { λ r. ⌜ r ≡ bodiesLast (imageOf (now (image .entry))) (openedAs readCn (now (image .entry)) cn) ⌝ }
+{
+    let at = cn.at;
+    let long = Tx::body(image, at + 218, image::u32_in(image, cn, 218));
+    let Step::Go = long else {
+        return long;
+    };
+    Tx::body(image, at + 222, image::u32_in(image, cn, 222))
+}
+
+// What hangs on an opened CN block, in a group of this record size.
+fn channel(image: &[u8], cn: Span, width: usize) -> Step
+    requires { ⌜ HoldsCn (now image) cn × (width < 65536) ⌝ }
+    ensures { λ r. ⌜ r ≡ stepOf (channelAt (imageOf (now (image .entry))) width (openedAs readCn (now (image .entry)) cn)) ⌝ }
+{
+    let first = channel_first(image, cn);
+    let Step::Go = first else {
+        return first;
+    };
+    let fields = fields_pass(image, cn, width);
+    let Step::Go = fields else {
+        return fields;
+    };
+    channel_last(image, cn)
+}
+
+// ---- the cursor
+
+// Where the walk stands: a link field and the link in it, and how many data groups, channel groups and channels it has met.
+pub struct Cursor {
+    pub field: usize,
+    pub link: usize,
+    pub dgs: usize,
+    pub cgs: usize,
+    pub cns: usize,
+}
+
+// A list walked to its end, or a refusal with number and place.
+pub enum Walked {
+    Done(Cursor),
+    Refused(u64, usize),
+}
+
+impl Cursor {
+    // At the first link of a file.
+    fn new(field: usize, link: usize) -> Self
+        ensures { λ r. ⌜ StandsAt r field link 0 0 0 ⌝ }
+    {
+        Cursor {
+            field,
+            link,
+            dgs: 0,
+            cgs: 0,
+            cns: 0,
+        }
+    }
+
+    // At the first link of a list below.
+    fn down(self, field: usize, link: usize) -> Self
+        ensures { λ r. ⌜ StandsAt r field link (self .dgs) (self .cgs) (self .cns) ⌝ }
+    {
+        Cursor {
+            field,
+            link,
+            dgs: self.dgs,
+            cgs: self.cgs,
+            cns: self.cns,
+        }
+    }
+
+    // Past a data group, at its next link.
+    fn past_dg(self, field: usize, link: usize) -> Self
+        requires { ⌜ self .dgs < 1024 ⌝ }
+        ensures { λ r. ⌜ StandsAt r field link (self .dgs + 1) (self .cgs) (self .cns) ⌝ }
+    {
+        Cursor {
+            field,
+            link,
+            dgs: self.dgs + 1,
+            cgs: self.cgs,
+            cns: self.cns,
+        }
+    }
+
+    // Past a channel group.
+    fn past_cg(self, field: usize, link: usize) -> Self
+        requires { ⌜ self .cgs < 1024 ⌝ }
+        ensures { λ r. ⌜ StandsAt r field link (self .dgs) (self .cgs + 1) (self .cns) ⌝ }
+    {
+        Cursor {
+            field,
+            link,
+            dgs: self.dgs,
+            cgs: self.cgs + 1,
+            cns: self.cns,
+        }
+    }
+
+    // Past a channel.
+    fn past_cn(self, field: usize, link: usize) -> Self
+        requires { ⌜ self .cns < 16384 ⌝ }
+        ensures { λ r. ⌜ StandsAt r field link (self .dgs) (self .cgs) (self .cns + 1) ⌝ }
+    {
+        Cursor {
+            field,
+            link,
+            dgs: self.dgs,
+            cgs: self.cgs,
+            cns: self.cns + 1,
+        }
+    }
+}
+
+// The channels of a group of this record size, from the cursor's link on.
+fn channel_list(image: &[u8], width: usize, start: Cursor) -> Walked
+    requires { ⌜ (width < 65536) × (start .cns ≤ 16384) ⌝ }
+    ensures { λ r. ⌜ (channelsMet r ≡ channelsFrom (imageOf (now (image .entry))) width (start .field) (start .link) (start .cns)) × OnlyChannels start r ⌝ }
+{
+    let mut c = start;
+    while c.link != 0 {
+        let field = c.field;
+        if c.cns == 16384 {
+            return Walked::Refused(7, field);
+        }
+        let link = c.link;
+        let Block::Open(cn) = Cn::open(image, link) else {
+            return Walked::Refused(5, field);
+        };
+        if let Step::Stop(number, place) = channel(image, cn, width) {
+            return Walked::Refused(number, place);
+        }
+        c = c.past_cn(cn.at + 4, image::u32_in(image, cn, 4));
+    }
+    Walked::Done(c)
+}
