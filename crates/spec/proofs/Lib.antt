@@ -10,3 +10,4 @@ pub mod Accepted
 pub mod CopyBytes
 pub mod Demand3
 pub mod Examples
+pub mod Facts

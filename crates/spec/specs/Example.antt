@@ -1,20 +1,21 @@
 -- Worked examples: images built byte by byte, and what each call gives for them. Document 01, Postings to agree with; docs/RULES.md, 10.
 -- The first table has every example that document 01 marks. The others are ours, for refusals, layout and samples. Too large to compute here: 1, 12, and 7 for channels.
 -- Assumes nothing.
-use Prim.Native.Nat.{ℕ, zero, suc, _+_, _%_}
+use Prim.Native.Nat.{ℕ, zero, suc, _+_, _-_, _%_}
 use mathlib.Core.Path.{_≡_}
 use mathlib.Core.Bool.{true, false}
 use mathlib.Core.List.{List, [], _∷_, _++_, map}
 use mathlib.Core.Option.{none, some}
-use lib.ListN.{length, replicate}
+use lib.ListN.{length, take, drop, replicate}
 use lib.IntN.{pos, negsuc}
 use lib.Ieee.{Float, nan, inf, fin}
 use Rattle.spec.specs.Bytes.{bytesOf, join}
-use Rattle.spec.specs.Answer.{Answer, accepted, mapAnswer}
+use Rattle.spec.specs.Answer.{Answer, refused, accepted, mapAnswer}
+use Rattle.spec.specs.Block.{imageOf}
 use Rattle.spec.specs.Reading.{Group, Reading}
-use Rattle.spec.specs.Walk.{reads}
-use Rattle.spec.specs.Sample.{Raw, natural, integer, float32, float64, bytesAt}
-use Rattle.spec.specs.Call.{Outcome, CopyOutcome, checkOutcome, copyOutcome, rawOutcome, partOutcome, physicalOutcome, programOutput}
+use Rattle.spec.specs.Walk.{channelList, groupList, reads}
+use Rattle.spec.specs.Sample.{part, Raw, natural, integer, float32, float64, bytesAt}
+use Rattle.spec.specs.Call.{Outcome, CopyOutcome, checkOutcome, copyOutcome, sampleOutcome, rawOutcome, partOutcome, physicalOutcome, programOutcome, decimal, programOutput}
 
 -- ---- what an example says
 
@@ -46,7 +47,7 @@ given (recorded image rows) = recordsResult (mapAnswer recordsRead (reads image)
 given (copies image memory outcome) = copyResult (copyOutcome image memory)
 given (sampled image outcome) = rawResult (rawOutcome image 0 0 0)
 given (asked image group channel row number place) = numbersResult (rawOutcome image group channel row .number) (rawOutcome image group channel row .place)
-given (parted image part) = bytesResult (partOutcome image 0 0 0)
+given (parted image bytes) = bytesResult (partOutcome image 0 0 0)
 given (converts image outcome) = floatResult (physicalOutcome image 0 0 0)
 given (prints input output) = bytesResult (programOutput input)
 
@@ -57,7 +58,7 @@ expected (recorded image rows) = recordsResult (accepted rows)
 expected (copies image memory outcome) = copyResult outcome
 expected (sampled image outcome) = rawResult outcome
 expected (asked image group channel row number place) = numbersResult number place
-expected (parted image part) = bytesResult part
+expected (parted image bytes) = bytesResult bytes
 expected (converts image outcome) = floatResult outcome
 expected (prints input output) = bytesResult output
 
@@ -433,8 +434,113 @@ others =
     ∷ prints sharedText (49 ∷ 51 ∷ 32 ∷ 52 ∷ 48 ∷ 50 ∷ 56 ∷ 54 ∷ 10 ∷ [])
     ∷ []
 
+-- a CN block with this next link
+abbrev pub cnNext : ℕ → List ℕ
+cnNext next = join ((67 ∷ 78 ∷ []) ∷ bytesOf 2 228 ∷ bytesOf 4 next ∷ zeros 16 ∷ bytesOf 2 0 ∷ counting 3 160 ∷ bytesOf 2 0 ∷ bytesOf 2 8 ∷ bytesOf 2 0 ∷ counting 5 26 ∷ zeros 10 ∷ [])
+
+-- the first n bytes of a block, its size said to be n
+abbrev pub cut : ℕ → List ℕ → List ℕ
+cut n block = take 2 block ++ (bytesOf 2 n ++ take (n - 4) (drop 4 block))
+
+-- two groups of size 1 that share a channel at 316, data at 544
+abbrev pub grid : ℕ → ℕ → List ℕ
+grid bits dataType = join (id300 ∷ hdBlock 228 0 0 9 ∷ dgBlock 0 256 0 544 7 1 ∷ cgBlock 286 316 0 1 9 1 2 0 ∷ cgBlock 0 316 0 2 9 1 2 0 ∷ signal 0 bits dataType ∷ (1 ∷ 65 ∷ 2 ∷ 66 ∷ 1 ∷ 67 ∷ 2 ∷ 68 ∷ []) ∷ [])
+
+-- version 320 with HD of n bytes
+abbrev pub hd320 : ℕ → List ℕ → List ℕ
+hd320 n more = join (idBlock mdf 0 0 320 ∷ (72 ∷ 68 ∷ []) ∷ bytesOf 2 n ∷ zeros 14 ∷ counting 100 146 ∷ more ∷ [])
+
+abbrev pub f64-nan : List ℕ
+f64-nan = bytesOf 8 0x7FF8000000000000
+
+-- an image of 32,768 bytes that is its own copy
+abbrev pub fullText : List ℕ
+fullText = join (id300 ∷ hdBlock 0 228 0 0 ∷ text (zeros 32536) ∷ [])
+
+-- a copy of 32,769 bytes
+abbrev pub overText : List ℕ
+overText = join (id300 ∷ hdBlock 228 291 286 1 ∷ dgBlock 0 256 0 0 1 0 ∷ cgBlock 0 0 291 0 0 0 0 0 ∷ small 80 82 (0 ∷ []) ∷ text (zeros 16235) ∷ [])
+
+-- on either side of the boundaries
+unfoldable pub edges : List Example
+edges =
+    checked (oneDataGroup (dgBlock 0 256 0 286 1 2) (cgBlock 0 0 0 0 0 1 1 0 ++ (0 ∷ 65 ∷ []))) 11 286
+    ∷ copies (oneGroup 2 0 (signal 0 16 0) []) (room 514) (record { given = success 514; memory = join (id300 ∷ hdBlock 228 0 0 1 ∷ dgBlock 0 256 0 0 1 0 ∷ cgBlock 0 286 0 0 1 2 0 0 ∷ signal 0 16 0 ∷ []) })
+    ∷ checked (oneChannel (cnBlock (zeros 16) 0 0 9 0 (zeros 8 ++ (1 ∷ 0 ∷ []))) []) 9 472
+    ∷ checked (oneChannel (cnNext 1) []) 5 290
+    ∷ checked (header (cut 163 (hdBlock 0 0 0 0)) ++ zeros 1) 5 64
+    ∷ checked (oneDataGroup (cut 23 (dgBlock 0 0 0 0 0 0)) (zeros 9)) 5 68
+    ∷ checked (oneDataGroup (cut 24 (dgBlock 0 0 0 0 0 0)) []) 0 0
+    ∷ checked (oneChannelGroup 0 (cut 25 (cgBlock 0 0 0 0 0 0 0 0)) (zeros 9)) 5 236
+    ∷ checked (oneChannelGroup 0 (cut 26 (cgBlock 0 0 0 0 0 0 0 1)) (1 ∷ 1 ∷ 1 ∷ 1 ∷ [])) 0 0
+    ∷ checked (oneChannel (cut 217 (signal 0 16 0)) (zeros 20)) 5 264
+    ∷ checked (oneChannel (cut 218 (signal 0 16 0)) (counting 1 20)) 0 0
+    ∷ checked (oneChannel (cnBlock (links4 514 0 0 0) 0 0 16 0 (zeros 10)) (cut 45 (conversion 0 (zeros 2)) ++ zeros 4)) 5 294
+    ∷ checked (oneChannel (cnBlock (links4 0 514 0 0) 0 0 16 0 (zeros 10)) (small 67 69 (0 ∷ []) ++ zeros 4)) 5 298
+    ∷ checked (header (hdBlock 0 228 0 0) ++ (84 ∷ 88 ∷ 3 ∷ 0 ∷ [])) 5 72
+    ∷ checked (header (hdBlock 0 0 228 0) ++ (80 ∷ 82 ∷ 3 ∷ 0 ∷ [])) 5 76
+    ∷ checked (header (hdBlock 0 228 0 0) ++ (84 ∷ 88 ∷ 5 ∷ 0 ∷ [])) 5 72
+    ∷ copies (idBlock mdf 0 0 319 ++ hdBlock 0 0 0 0) (room 228) (record { given = success 228; memory = idBlock mdf 0 0 319 ++ hdBlock 0 0 0 0 })
+    ∷ copies (hd320 176 (counting 1 12)) (room 272) (record { given = success 272; memory = hd320 208 (counting 1 12 ++ zeros 32) })
+    ∷ copies (hd320 175 (counting 1 11)) (room 272) (record { given = success 272; memory = hd320 208 (counting 1 10 ++ zeros 34) })
+    ∷ checked (oneDataGroup (dgBlock 0 0 0 0 0 256) []) 8 250
+    ∷ checked (idBlock (85 ∷ 110 ∷ 70 ∷ 105 ∷ 110 ∷ 77 ∷ 70 ∷ 32 ∷ []) 1 1 0) 3 0
+    ∷ checked (idBlock (zeros 8) 1 1 0) 2 0
+    ∷ checked (idBlock mdf 1 0 300) 4 24
+    ∷ checked (idBlock mdf 0 256 300) 4 26
+    ∷ checked (oneChannel (cnBlock (zeros 16) 256 0 16 0 (zeros 10)) []) 9 310
+    ∷ checked (oneChannel (cnBlock (zeros 16) 0 0 16 256 (zeros 10)) []) 9 476
+    ∷ checked (oneChannel (cnBlock (zeros 16) 0 256 8 0 (zeros 10)) []) 9 472
+    ∷ checked (oneChannel (cnBlock (zeros 16) 0 0 256 0 (zeros 10)) []) 9 472
+    ∷ checked (oneChannel (cnBlock (links4 514 0 0 0) 0 0 16 0 (zeros 10)) (conversion 268 (zeros 2))) 0 0
+    ∷ checked (oneChannelGroup 2 (cgBlock 0 0 0 256 0 0 0 0) []) 8 272
+    ∷ sampled (oneRecord 2 0 8 9 (0x12 ∷ 0x34 ∷ [])) (success (natural 0x12))
+    ∷ sampled (oneRecord 2 0 9 0 (0xFF ∷ 1 ∷ [])) (success (natural 0x1FF))
+    ∷ asked (oneRecord 16 57 64 1 (zeros 16)) 0 0 0 15 476
+    ∷ asked (oneRecord 9 1 64 3 (zeros 9)) 0 0 0 15 476
+    ∷ asked (oneRecord 8 0 64 2 (zeros 8)) 0 0 0 15 476
+    ∷ asked (oneRecord 9 0 72 3 (zeros 9)) 0 0 0 15 476
+    ∷ asked (oneRecord 8 0 64 4 (zeros 8)) 0 0 0 15 476
+    ∷ asked (oneRecord 8 0 32 5 (zeros 8)) 0 0 0 15 476
+    ∷ asked (oneRecord 8 0 64 5 (zeros 8)) 0 0 0 15 476
+    ∷ asked (oneRecord 8 0 32 6 (zeros 8)) 0 0 0 15 476
+    ∷ asked (oneRecord 8 0 64 6 (zeros 8)) 0 0 0 15 476
+    ∷ asked id300 0 0 0 5 64
+    ∷ parted (oneRecord 8 0 64 1 (zeros 8)) []
+    ∷ parted (oneRecord 4 0 32 2 (zeros 4)) []
+    ∷ parted (oneRecord 8 0 64 3 (zeros 8)) []
+    ∷ sampled (oneGroup 3 1 (cnBlock (zeros 16) 0 8 8 7 (zeros 8 ++ (1 ∷ 0 ∷ []))) (65 ∷ 66 ∷ 67 ∷ [])) (success (bytesAt 516 1))
+    ∷ converts (oneRecord 8 0 64 3 f64-nan) (refusal 16 0)
+    ∷ converts (withConversion 8 0 (5 ∷ []) (conversion 0 (bytesOf 2 2 ++ (f64-nan ++ f64-forty)))) (refusal 16 0)
+    ∷ converts (oneRecord 8 0 64 0 (bytesOf 8 9007199254740991)) (success (fin false 9007199254740991 (pos 0)))
+    ∷ converts (oneRecord 8 0 64 1 (bytesOf 8 9007199254740991)) (success (fin false 9007199254740991 (pos 0)))
+    ∷ converts (oneRecord 8 0 64 1 (bytesOf 8 9007199254740993)) (refusal 16 0)
+    ∷ converts (withConversion 32 0 (bytesOf 4 134217729) (conversion 0 (bytesOf 2 2 ++ (bytesOf 8 0xC350000004000000 ++ bytesOf 8 0x41A0000002000000)))) (success (fin false 0 (pos 0)))
+    ∷ converts (withConversion 32 0 (bytesOf 4 134217729) (conversion 0 (bytesOf 2 2 ++ (f64-zero ++ bytesOf 8 0x41A0000002000000)))) (success (fin false 67108865 (pos 28)))
+    ∷ converts (withConversion 32 0 (bytesOf 4 134217729) (conversion 0 (bytesOf 2 2 ++ (bytesOf 8 0x3FF0000000000000 ++ bytesOf 8 0x3FF0000000000000)))) (success (fin false 67108865 (pos 1)))
+    ∷ converts (withConversion 8 0 (5 ∷ []) (conversion 65534 (bytesOf 2 2 ++ (f64-zero ++ f64-forty)))) (refusal 16 0)
+    ∷ copies (oneGroup 1 0 (cnNext 518) (zeros 4 ++ cnNext 0)) (room 742) (record { given = success 742; memory = join (id300 ∷ hdBlock 228 0 0 1 ∷ dgBlock 0 256 0 0 1 0 ∷ cgBlock 0 286 0 0 2 1 0 0 ∷ cnNext 514 ∷ cnNext 0 ∷ []) })
+    ∷ recorded (join (id300 ∷ hdBlock 228 0 0 3 ∷ dgBlock 256 312 0 342 1 1 ∷ dgBlock 284 0 0 1 0 2 ∷ dgBlock 0 312 0 344 1 1 ∷ cgBlock 0 0 0 7 0 1 1 0 ∷ (7 ∷ 65 ∷ 7 ∷ 66 ∷ []) ∷ [])) (((65 ∷ []) ∷ []) ∷ ((66 ∷ []) ∷ []) ∷ [])
+    ∷ prints fullText fullText
+    ∷ prints overText (49 ∷ 51 ∷ 32 ∷ 51 ∷ 50 ∷ 55 ∷ 54 ∷ 57 ∷ 10 ∷ [])
+    ∷ []
+
 abbrev pub OwnExamplesAgree : Type 0
-OwnExamplesAgree = Agree checks × Agree others
+OwnExamplesAgree = Agree checks × Agree others × Agree edges
+
+-- what the tables have no row for: samples of a later group and record, the function under the program, the limits of 7 at their end, numbers as bytes
+abbrev pub SmallExamplesAgree : Type 0
+SmallExamplesAgree =
+    (sampleOutcome (grid 8 7) 1 0 1 ≡ success (part 551 1))
+    × (rawOutcome (grid 8 7) 1 0 1 ≡ success (bytesAt 551 1))
+    × (partOutcome (grid 8 7) 1 0 1 ≡ 68 ∷ [])
+    × (physicalOutcome (grid 8 0) 1 0 1 ≡ success (fin false 17 (pos 2)))
+    × (programOutcome plain300 (room 230) ≡ record { given = success 228; memory = plain300 ++ room 2 })
+    × (programOutcome (zeros 32769) (room 3) ≡ record { given = refusal 1 0; memory = room 3 })
+    × (decimal 2147483647 ≡ 50 ∷ 49 ∷ 52 ∷ 55 ∷ 52 ∷ 56 ∷ 51 ∷ 54 ∷ 52 ∷ 55 ∷ [])
+    × (bytesOf 4 0x01020304 ≡ 4 ∷ 3 ∷ 2 ∷ 1 ∷ [])
+    × (groupList (imageOf []) 0 9 0 (1 ∷ []) 260 (some 1) ≡ refused 7 260)
+    × (channelList (imageOf []) 0 9 264 (some 1) ≡ refused 7 264)
 
 -- ---- readings that differ
 

@@ -11,3 +11,4 @@ pub mod Call
 pub mod WellFormed
 pub mod Demand3
 pub mod Example
+pub mod Facts

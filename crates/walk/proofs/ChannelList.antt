@@ -1,15 +1,14 @@
 -- One turn of the walk over channels.
 -- Assumes nothing.
-use Prim.Native.Nat.{ℕ, zero, suc, _+_, _-_, _≤_, _<_}
+use Prim.Native.Nat.{ℕ, zero, suc, _+_, _-_, _<_}
 use mathlib.Core.Path.{_≡_, refl, sym, _∙_, ap}
 use mathlib.Core.List.{List, [], _∷_}
-use mathlib.Core.Option.{none, some}
+use mathlib.Core.Option.{none}
 use native.Mathlib.Omega.{arith}
 use lib.ListN.{length}
-use Rattle.spec.specs.Bytes.{u32, toLink, link}
+use Rattle.spec.specs.Bytes.{u32, toLink}
 use Rattle.spec.specs.Answer.{Answer, refused, accepted, _>>=_, mapAnswer}
 use Rattle.spec.specs.Block.{Image, CN, opening, readCn}
-use Rattle.spec.specs.Found.{FoundChannel}
 use Rattle.spec.specs.Walk.{channelAt, channelList}
 use Rattle.spec.proofs.Answers.{step, stop}
 use Rattle.image.specs.declared.Span.{Span}

@@ -1,10 +1,9 @@
 -- What the code's tests say of a channel.
 -- Assumes nothing.
-use Prim.Native.Nat.{ℕ, zero, suc, _+_, _*_, _-_, _≤_, _<_}
+use Prim.Native.Nat.{ℕ, _+_, _*_, _≤_, _<_}
 use mathlib.Core.Path.{_≡_, refl, sym, _∙_, ap}
-use mathlib.Core.Bool.{Bool, true, false, not, _||_, or-true}
-use mathlib.Core.List.{List, [], _∷_}
-use mathlib.Core.Option.{Option, none, some}
+use mathlib.Core.Bool.{Bool, true, false, not}
+use mathlib.Core.List.{List}
 use native.Mathlib.Omega.{arith}
 use lib.Dec.{leb, eqb}
 use lib.ListN.{length, take, drop, length-drop}
@@ -17,12 +16,12 @@ use Rattle.spec.specs.Walk.{bitsFit, fieldsPass, formulaPasses, conversionAt, c
 use Rattle.spec.proofs.Answers.{step, pass, stop, fail}
 use Rattle.spec.proofs.Places.{field-in}
 use Rattle.image.specs.declared.Span.{Span}
-use Rattle.image.specs.declared.Block.the-variants.{Open, Shut}
+use Rattle.image.specs.declared.Block.the-variants.{Shut}
 use Rattle.image.specs.declared.Step.{Step}
 use Rattle.image.specs.declared.Step.the-variants.{Go, Stop}
-use Rattle.image.specs.Spans.{blockOf, blockIn, Inside, stepOf}
+use Rattle.image.specs.Spans.{blockOf, blockIn, stepOf}
 use Rattle.image.proofs.Fields.{block-length, drop-take}
-use Rattle.image.proofs.Blocks.{not-nil, Stands, stands, body-shut, body-open}
+use Rattle.image.proofs.Blocks.{not-nil, Stands, body-shut, body-open}
 use Rattle.walk.specs.Steps.{_then_, HoldsCn, bodiesFirst, bodiesLast}
 
 -- ---- steps

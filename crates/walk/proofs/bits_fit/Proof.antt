@@ -16,7 +16,7 @@ u16-in-requires c κs = search needs
 
 -- src/lib.rt:43:9
 returns : tie.Need-returns
-returns c = 
+returns c =
     let a = c .before .before .before .args in
     let f = readFields (blockIn (now (a .image)) (a .cn)) in
     bits-none (a .width) f (sym (bits-is _ _ (c .before .before .before .pre .0)) ∙ sym (c .before .u16-in .ensures .0) ∙ c .if1 .taken)
@@ -47,7 +47,7 @@ mul-result-2 c = search needs
 
 -- src/lib.rt:37:1
 returns-2 : tie.Need-returns-2
-returns-2 c = 
+returns-2 c =
     let a = c .before .before .before .before .before .args in
     let f = readFields (blockIn (now (a .image)) (a .cn)) in
     let h = c .before .before .before .before .before .pre .0 in

@@ -39,7 +39,7 @@ enum-told-4 c = search needs
 -- src/lib.rt:112:9
 returns-2 : tie.Need-returns-2
 unfolding readCn
-returns-2 c = 
+returns-2 c =
     then-right (c .before .before .before .before .before .channel-first .ensures) (c .before .before .before .enum-told .given .1)
     (then-left _ (c .before .before .fields-pass .ensures) (c .enum-told4 .given .1))
     ∙ sym (channel-steps _ _ _)
@@ -51,7 +51,7 @@ channel-last-requires c κs = search needs
 -- src/lib.rt:102:1
 returns-3 : tie.Need-returns-3
 unfolding readCn
-returns-3 c = 
+returns-3 c =
     then-right (c .before .before .before .before .before .before .channel-first .ensures) (c .before .before .before .before .enum-told .given .1)
     (then-right (c .before .before .before .fields-pass .ensures) (c .before .enum-told3 .given .1)
     (c .channel-last .ensures))

@@ -55,7 +55,7 @@ enum-told-4 c = search needs
 -- src/lib.rt:80:9
 returns-2 : tie.Need-returns-2
 unfolding bodiesFirst readCn
-returns-2 c = 
+returns-2 c =
     then-right (rw (c .before .before .before .before .before .before .before .u32-in .ensures .0) at (c .before .before .before .before .before .before .conversion .ensures)) (c .before .before .before .before .enum-told .given .1)
     (then-left _ (rw (c .before .before .before .u32-in2 .ensures .0) at (c .before .before .body .ensures)) (c .enum-told4 .given .1))
 
@@ -70,7 +70,7 @@ add-t9 c = search needs
 -- src/lib.rt:83:9
 returns-3 : tie.Need-returns-3
 unfolding bodiesFirst readCn
-returns-3 c = 
+returns-3 c =
     then-right (rw (c .before .before .before .before .before .before .before .before .before .u32-in .ensures .0) at (c .before .before .before .before .before .before .before .before .conversion .ensures)) (c .before .before .before .before .before .before .enum-told .given .1)
     (then-right (rw (c .before .before .before .before .before .u32-in2 .ensures .0) at (c .before .before .before .before .body .ensures)) (c .before .before .enum-told3 .given .1)
     (then-left _ (rw (c .before .u32-in3 .ensures .0) at (nil-stop (c .before .u32-in3 .result) 6 (c .before .before .before .before .before .before .before .before .before .before .before .args .cn .at + 16) (c .if1 .taken))) refl))
@@ -90,7 +90,7 @@ body-requires-2 c κs = search needs
 -- src/lib.rt:69:1
 returns-4 : tie.Need-returns-4
 unfolding bodiesFirst readCn
-returns-4 c = 
+returns-4 c =
     then-right (rw (c .before .before .before .before .before .before .before .before .before .before .before .u32-in .ensures .0) at (c .before .before .before .before .before .before .before .before .before .before .conversion .ensures)) (c .before .before .before .before .before .before .before .before .enum-told .given .1)
     (then-right (rw (c .before .before .before .before .before .before .before .u32-in2 .ensures .0) at (c .before .before .before .before .before .before .body .ensures)) (c .before .before .before .before .enum-told3 .given .1)
     (then-right (rw (c .before .before .before .u32-in3 .ensures .0) at (nil-go (c .before .before .before .u32-in3 .result) 6 (c .before .before .before .before .before .before .before .before .before .before .before .before .before .args .cn .at + 16) (c .before .before .if1 .left))) refl

@@ -48,7 +48,7 @@ body-requires-2 c κs = search needs
 -- src/lib.rt:89:1
 returns-2 : tie.Need-returns-2
 unfolding bodiesLast readCn
-returns-2 c = 
+returns-2 c =
     then-right (rw (c .before .before .before .before .before .u32-in .ensures .0) at (c .before .before .before .before .body .ensures)) (c .before .before .enum-told .given .1)
     (rw (c .before .u32-in2 .ensures .0) at (c .body2 .ensures))
 

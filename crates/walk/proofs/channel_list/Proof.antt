@@ -1,4 +1,3 @@
-
 use Rattle.walk.proofs.ChannelList.{channels-end, channels-full, channels-shut, channels-stop, channels-go}
 use Rattle.walk.specs.Lists.{channelsFrom}
 use Rattle.image.proofs.Blocks.{stands}
@@ -18,7 +17,7 @@ use Rattle.walk.proofs.Cursor.past_cn.Reads as past-cn-reads
 use Rattle.walk.proofs.channel.Reads as channel-reads
 
 abbrev Inv-loop : tie.InvT-loop
-Inv-loop image width c₀ c = 
+Inv-loop image width c₀ c =
     (c .dgs ≡ c₀ .dgs)
     × (c .cgs ≡ c₀ .cgs)
     × (c₀ .cns ≤ c .cns)
@@ -34,7 +33,7 @@ loop-holds c = (refl, refl, omega arith, omega arith, refl)
 
 -- src/lib.rt:215:13
 returns : tie.Need-returns Inv-loop μ-loop
-returns c = 
+returns c =
     let l = c .before .before .before .before .loop in
     (sym (l .inv .4 ∙ channels-full _ _ _ _ _ (c .before .before .if1 .taken) (c .if2 .taken)), tt)
 
@@ -52,13 +51,13 @@ enum-told c = search needs
 
 -- src/lib.rt:219:13
 returns-2 : tie.Need-returns-2 Inv-loop μ-loop
-returns-2 c = 
+returns-2 c =
     let l = c .before .before .before .before .before .before .before .loop in
     (sym (l .inv .4 ∙ channels-shut _ _ _ _ _ (c .before .before .before .before .before .if1 .taken) (omega (arith, l .inv .3, c .before .before .before .if2 .left)) (sym (c .enum-told .given .1) ∙ c .before .before .«open» .ensures)), tt)
 
 -- src/lib.rt:221:44
 channel-requires : tie.Need-channel-requires Inv-loop μ-loop
-channel-requires c κs = 
+channel-requires c κs =
     let s = stands CN _ _ _ (sym (c .before .cn .given .1) ∙ c .before .before .before .«open» .ensures) in
     (record { inside = s .inside; least = s .least }, c .before .before .before .before .before .before .before .before .before .before .pre .0)
 
@@ -68,7 +67,7 @@ enum-known-number c = search needs
 
 -- src/lib.rt:222:13
 returns-3 : tie.Need-returns-3 Inv-loop μ-loop
-returns-3 c = 
+returns-3 c =
     let l = c .before .before .before .before .before .before .before .before .before .before .before .before .loop in
     let s = stands CN _ _ _ (sym (c .before .before .before .before .before .cn .given .1) ∙ c .before .before .before .before .before .before .before .«open» .ensures) in
     (sym (l .inv .4 ∙ channels-stop _ _ _ _ _ (c .before .before .before .before .before .before .before .before .before .before .if1 .taken) (omega (arith, l .inv .3, c .before .before .before .before .before .before .before .before .if2 .left)) _ s _ _ (sym (c .before .number .given .1) ∙ c .before .before .before .channel .ensures)), tt)
@@ -78,13 +77,13 @@ enum-told-2 c = search needs
 
 -- src/lib.rt:224:23
 add-past-cn : tie.Need-add-past-cn Inv-loop μ-loop
-add-past-cn c = 
+add-past-cn c =
     let s = stands CN _ _ _ (sym (c .before .before .before .before .before .cn .given .1) ∙ c .before .before .before .before .before .before .before .«open» .ensures) in
     omega (arith, s .inside, s .least)
 
 -- src/lib.rt:224:34
 u32-in-requires : tie.Need-u32-in-requires Inv-loop μ-loop
-u32-in-requires c κs = 
+u32-in-requires c κs =
     let s = stands CN _ _ _ (sym (c .before .before .before .before .before .cn .given .1) ∙ c .before .before .before .before .before .before .before .«open» .ensures) in
     (omega arith, s .inside)
 
@@ -98,22 +97,22 @@ loop-less c = omega (arith, c .past-cn .ensures .4, c .before .before .before .b
 
 -- src/lib.rt:212:5
 loop-again : tie.Need-loop-again Inv-loop μ-loop
-loop-again c = 
+loop-again c =
     let l = c .before .before .before .before .before .before .before .before .before .before .before .before .before .before .loop in
     let m = c .past-cn .ensures in
     let s = stands CN _ _ _ (sym (c .before .before .before .before .before .before .before .cn .given .1) ∙ c .before .before .before .before .before .before .before .before .before .«open» .ensures) in
     let below : l .c .cns < 16384 = omega (arith, l .inv .3, c .before .before .before .before .before .before .before .before .before .before .if2 .left) in
-    let g = channels-go _ (c .before .before .before .before .before .before .before .before .before .before .before .before .before .before .before .before .args .width) (l .c .field) _ _ (c .before .before .before .before .before .before .before .before .before .before .before .before .if1 .taken) below _ s (sym (c .before .before .before .enum-told2 .given .1) ∙ c .before .before .before .before .before .channel .ensures) in
-    ( m .2 ∙ l .inv .0
-    , m .3 ∙ l .inv .1
-    , omega (arith, m .4, l .inv .2)
-    , omega (arith, m .4, below)
-    , rw (m .0, m .1, m .4, c .before .u32-in .ensures .0) (l .inv .4 ∙ g)
+    let g = channels-go _ (c .before .before .before .before .before .before .before .before .before .before .before .before .before .before .before .before .args .width) (l .c .field) _ _ (c .before .before .before .before .before .before .before .before .before .before .before .before .if1 .taken) below _ s (sym (c .before .before .before .enum-told2 .given .1) ∙ c .before .before .before .before .before .channel .ensures) in (
+      m .2 ∙ l .inv .0,
+      m .3 ∙ l .inv .1,
+      omega (arith, m .4, l .inv .2),
+      omega (arith, m .4, below),
+      rw (m .0, m .1, m .4, c .before .u32-in .ensures .0) (l .inv .4 ∙ g),
     )
 
 -- src/lib.rt:207:1
 returns-4 : tie.Need-returns-4 Inv-loop μ-loop
-returns-4 c = 
+returns-4 c =
     let l = c .before .before .loop in
     (sym (l .inv .4 ∙ channels-end _ _ _ _ _ (c .if1 .left)), (l .inv .0, l .inv .1, l .inv .2, l .inv .3))
 

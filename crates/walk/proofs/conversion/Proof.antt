@@ -39,25 +39,25 @@ returns-2 c = conversion-shut _ _ _ (c .before .before .before .if1 .left) (sym 
 
 -- src/lib.rt:30:8
 u16-in-requires : tie.Need-u16-in-requires
-u16-in-requires c κs = 
+u16-in-requires c κs =
     let s = stands CC _ _ _ (sym (c .before .cc .given .1) ∙ c .before .before .before .«open» .ensures) in
     (omega arith, s .inside)
 
 -- src/lib.rt:31:30
 add-t9 : tie.Need-add-t9
-add-t9 c = 
+add-t9 c =
     let s = stands CC _ _ _ (sym (c .before .before .before .before .cc .given .1) ∙ c .before .before .before .before .before .before .«open» .ensures) in
     omega (arith, s .inside, s .least)
 
 -- src/lib.rt:31:9
 returns-3 : tie.Need-returns-3
-returns-3 c = 
+returns-3 c =
     let s = stands CC _ _ _ (sym (c .before .before .before .before .cc .given .1) ∙ c .before .before .before .before .before .before .«open» .ensures) in
     formula-links _ _ _ (c .before .before .before .before .before .before .before .if1 .left) _ s (sym (c .before .before .u16-in .ensures .0) ∙ c .before .if2 .taken)
 
 -- src/lib.rt:20:1
 returns-4 : tie.Need-returns-4
-returns-4 c = 
+returns-4 c =
     let s = stands CC _ _ _ (sym (c .before .before .before .cc .given .1) ∙ c .before .before .before .before .before .«open» .ensures) in
     formula-plain _ _ _ (c .before .before .before .before .before .before .if1 .left) _ s (λ e. c .if2 .left (c .before .u16-in .ensures .0 ∙ e))
 

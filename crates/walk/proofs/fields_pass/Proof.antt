@@ -23,7 +23,7 @@ add-t7 c = search needs
 
 -- src/lib.rt:57:9
 returns : tie.Need-returns
-returns c = 
+returns c =
     let t = c .before .u16-in .ensures .0 ∙ type-is _ _ (c .before .before .before .pre .0) in
     wrong-type _ _ _ (omega (arith, c .if1 .taken, t))
 
@@ -37,7 +37,7 @@ add-t9 c = search needs
 
 -- src/lib.rt:60:9
 returns-2 : tie.Need-returns-2
-returns-2 c = 
+returns-2 c =
     let t = c .before .before .before .u16-in .ensures .0 ∙ type-is _ _ (c .before .before .before .before .before .pre .0) in
     wrong-bits _ _ _ (omega (arith, c .before .before .if1 .left, t)) (sym (c .before .bits-fit .ensures) ∙ not-true _ (c .if2 .taken))
 
@@ -51,14 +51,14 @@ add-t10 c = search needs
 
 -- src/lib.rt:63:9
 returns-3 : tie.Need-returns-3
-returns-3 c = 
+returns-3 c =
     let t = c .before .before .before .before .before .u16-in .ensures .0 ∙ type-is _ _ (c .before .before .before .before .before .before .before .pre .0) in
     let d = c .before .u16-in2 .ensures .0 ∙ data-is _ _ (c .before .before .before .before .before .before .before .pre .0) in
     wrong-data _ _ _ (omega (arith, c .before .before .before .before .if1 .left, t)) (sym (c .before .before .before .bits-fit .ensures) ∙ not-false _ (c .before .before .if2 .left)) (omega (arith, c .if3 .taken, d))
 
 -- src/lib.rt:51:1
 returns-4 : tie.Need-returns-4
-returns-4 c = 
+returns-4 c =
     let t = c .before .before .before .before .before .u16-in .ensures .0 ∙ type-is _ _ (c .before .before .before .before .before .before .before .pre .0) in
     let d = c .before .u16-in2 .ensures .0 ∙ data-is _ _ (c .before .before .before .before .before .before .before .pre .0) in
     fields-good _ _ _ (omega (arith, c .before .before .before .before .if1 .left, t)) (sym (c .before .before .before .bits-fit .ensures) ∙ not-false _ (c .before .before .if2 .left)) (omega (arith, c .if3 .left, d))
