@@ -6,46 +6,34 @@ use mathlib.Core.Path.{_≡_, sym, _∙_}
 use borrow.Author.Needs.{needs}
 use Rattle.walk.proofs.bits_fit.Statement.{statement}
 use Rattle.walk.proofs.bits_fit.Tie as tie
-use Rattle.walk.proofs.bits_fit.Reads as reads
-use Rattle.walk.proofs.bits_fit.Lts as lts
-use Rattle.image.proofs.u16_in.Reads as u16-in-reads
 
--- src/lib.rt:41:9
 u16-in-requires : tie.Need-u16-in-requires
 u16-in-requires c κs = search needs
 
--- src/lib.rt:43:9
 returns : tie.Need-returns
 returns c =
     let a = c .before .before .before .args in
     let f = readFields (blockIn (now (a .image)) (a .cn)) in
     bits-none (a .width) f (sym (bits-is _ _ (c .before .before .before .pre .0)) ∙ sym (c .before .u16-in .ensures .0) ∙ c .if1 .taken)
 
--- src/lib.rt:45:9
 u16-in-requires-2 : tie.Need-u16-in-requires-2
 u16-in-requires-2 c κs = search needs
 
--- src/lib.rt:46:9
 u16-in-requires-3 : tie.Need-u16-in-requires-3
 u16-in-requires-3 c κs = search needs
 
--- src/lib.rt:47:13
 mul-result : tie.Need-mul-result
 mul-result c = search needs
 
--- src/lib.rt:47:5
 add-result : tie.Need-add-result
 add-result c = search needs
 
--- src/lib.rt:47:5
 add-result-2 : tie.Need-add-result-2
 add-result-2 c = search needs
 
--- src/lib.rt:47:33
 mul-result-2 : tie.Need-mul-result-2
 mul-result-2 c = search needs
 
--- src/lib.rt:37:1
 returns-2 : tie.Need-returns-2
 returns-2 c =
     let a = c .before .before .before .before .before .args in

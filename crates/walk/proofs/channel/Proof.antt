@@ -4,39 +4,28 @@ use mathlib.Core.Path.{_≡_, sym, _∙_}
 use borrow.Author.Needs.{needs}
 use Rattle.walk.proofs.channel.Statement.{statement}
 use Rattle.walk.proofs.channel.Tie as tie
-use Rattle.walk.proofs.channel.Reads as reads
-use Rattle.walk.proofs.channel.Lts as lts
-use Rattle.walk.proofs.channel_first.Reads as channel-first-reads
-use Rattle.walk.proofs.channel_last.Reads as channel-last-reads
-use Rattle.walk.proofs.fields_pass.Reads as fields-pass-reads
 
--- src/lib.rt:106:9
 channel-first-requires : tie.Need-channel-first-requires
 channel-first-requires c κs = search needs
 
 enum-told : tie.Need-enum-told
 enum-told c = search needs
 
--- src/lib.rt:108:9
 enum-told-2 : tie.Need-enum-told-2
 enum-told-2 c = search needs
 
--- src/lib.rt:108:9
 returns : tie.Need-returns
 returns c = then-left _ (c .before .before .channel-first .ensures) (c .enum-told2 .given .1) ∙ sym (channel-steps _ _ _)
 
--- src/lib.rt:110:9
 fields-pass-requires : tie.Need-fields-pass-requires
 fields-pass-requires c κs = search needs
 
 enum-told-3 : tie.Need-enum-told-3
 enum-told-3 c = search needs
 
--- src/lib.rt:112:9
 enum-told-4 : tie.Need-enum-told-4
 enum-told-4 c = search needs
 
--- src/lib.rt:112:9
 returns-2 : tie.Need-returns-2
 unfolding readCn
 returns-2 c =
@@ -44,11 +33,9 @@ returns-2 c =
     (then-left _ (c .before .before .fields-pass .ensures) (c .enum-told4 .given .1))
     ∙ sym (channel-steps _ _ _)
 
--- src/lib.rt:114:5
 channel-last-requires : tie.Need-channel-last-requires
 channel-last-requires c κs = search needs
 
--- src/lib.rt:102:1
 returns-3 : tie.Need-returns-3
 unfolding readCn
 returns-3 c =

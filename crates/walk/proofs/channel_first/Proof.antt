@@ -6,68 +6,50 @@ use Prim.Native.Nat.{_+_}
 use borrow.Author.Needs.{needs}
 use Rattle.walk.proofs.channel_first.Statement.{statement}
 use Rattle.walk.proofs.channel_first.Tie as tie
-use Rattle.walk.proofs.channel_first.Reads as reads
-use Rattle.walk.proofs.channel_first.Lts as lts
-use Rattle.image.proofs.Ce.body.Reads as Ce-body-reads
-use Rattle.image.proofs.Tx.body.Reads as Tx-body-reads
-use Rattle.image.proofs.u32_in.Reads as u32-in-reads
-use Rattle.walk.proofs.conversion.Reads as conversion-reads
 
--- src/lib.rt:74:36
 u32-in-requires : tie.Need-u32-in-requires
 u32-in-requires c κs = search needs
 
--- src/lib.rt:74:9
 conversion-requires : tie.Need-conversion-requires
 conversion-requires c κs = search needs
 
 enum-told : tie.Need-enum-told
 enum-told c = search needs
 
--- src/lib.rt:76:9
 enum-told-2 : tie.Need-enum-told-2
 enum-told-2 c = search needs
 
--- src/lib.rt:76:9
 returns : tie.Need-returns
 unfolding bodiesFirst readCn
 returns c = then-left _ (rw (c .before .before .before .u32-in .ensures .0) at (c .before .before .conversion .ensures)) (c .enum-told2 .given .1)
 
--- src/lib.rt:78:30
 add-body : tie.Need-add-body
 add-body c = search needs
 
--- src/lib.rt:78:39
 u32-in-requires-2 : tie.Need-u32-in-requires-2
 u32-in-requires-2 c κs = search needs
 
--- src/lib.rt:78:9
 body-requires : tie.Need-body-requires
 body-requires c κs = search needs
 
 enum-told-3 : tie.Need-enum-told-3
 enum-told-3 c = search needs
 
--- src/lib.rt:80:9
 enum-told-4 : tie.Need-enum-told-4
 enum-told-4 c = search needs
 
--- src/lib.rt:80:9
 returns-2 : tie.Need-returns-2
 unfolding bodiesFirst readCn
 returns-2 c =
     then-right (rw (c .before .before .before .before .before .before .before .u32-in .ensures .0) at (c .before .before .before .before .before .before .conversion .ensures)) (c .before .before .before .before .enum-told .given .1)
     (then-left _ (rw (c .before .before .before .u32-in2 .ensures .0) at (c .before .before .body .ensures)) (c .enum-told4 .given .1))
 
--- src/lib.rt:82:8
 u32-in-requires-3 : tie.Need-u32-in-requires-3
 u32-in-requires-3 c κs = search needs
 
--- src/lib.rt:83:30
 add-t9 : tie.Need-add-t9
 add-t9 c = search needs
 
--- src/lib.rt:83:9
 returns-3 : tie.Need-returns-3
 unfolding bodiesFirst readCn
 returns-3 c =
@@ -75,19 +57,15 @@ returns-3 c =
     (then-right (rw (c .before .before .before .before .before .u32-in2 .ensures .0) at (c .before .before .before .before .body .ensures)) (c .before .before .enum-told3 .given .1)
     (then-left _ (rw (c .before .u32-in3 .ensures .0) at (nil-stop (c .before .u32-in3 .result) 6 (c .before .before .before .before .before .before .before .before .before .before .before .args .cn .at + 16) (c .if1 .taken))) refl))
 
--- src/lib.rt:85:21
 add-body-2 : tie.Need-add-body-2
 add-body-2 c = search needs
 
--- src/lib.rt:85:30
 u32-in-requires-4 : tie.Need-u32-in-requires-4
 u32-in-requires-4 c κs = search needs
 
--- src/lib.rt:85:5
 body-requires-2 : tie.Need-body-requires-2
 body-requires-2 c κs = search needs
 
--- src/lib.rt:69:1
 returns-4 : tie.Need-returns-4
 unfolding bodiesFirst readCn
 returns-4 c =

@@ -4,48 +4,35 @@ use Rattle.spec.specs.Block.{readCn}
 use borrow.Author.Needs.{needs}
 use Rattle.walk.proofs.channel_last.Statement.{statement}
 use Rattle.walk.proofs.channel_last.Tie as tie
-use Rattle.walk.proofs.channel_last.Reads as reads
-use Rattle.walk.proofs.channel_last.Lts as lts
-use Rattle.image.proofs.Tx.body.Reads as body-reads
-use Rattle.image.proofs.u32_in.Reads as u32-in-reads
 
--- src/lib.rt:94:32
 add-body : tie.Need-add-body
 add-body c = search needs
 
--- src/lib.rt:94:42
 u32-in-requires : tie.Need-u32-in-requires
 u32-in-requires c κs = search needs
 
--- src/lib.rt:94:9
 body-requires : tie.Need-body-requires
 body-requires c κs = search needs
 
 enum-told : tie.Need-enum-told
 enum-told c = search needs
 
--- src/lib.rt:96:9
 enum-told-2 : tie.Need-enum-told-2
 enum-told-2 c = search needs
 
--- src/lib.rt:96:9
 returns : tie.Need-returns
 unfolding bodiesLast readCn
 returns c = then-left _ (rw (c .before .before .before .u32-in .ensures .0) at (c .before .before .body .ensures)) (c .enum-told2 .given .1)
 
--- src/lib.rt:98:21
 add-body-2 : tie.Need-add-body-2
 add-body-2 c = search needs
 
--- src/lib.rt:98:31
 u32-in-requires-2 : tie.Need-u32-in-requires-2
 u32-in-requires-2 c κs = search needs
 
--- src/lib.rt:98:5
 body-requires-2 : tie.Need-body-requires-2
 body-requires-2 c κs = search needs
 
--- src/lib.rt:89:1
 returns-2 : tie.Need-returns-2
 unfolding bodiesLast readCn
 returns-2 c =

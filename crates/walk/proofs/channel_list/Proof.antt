@@ -9,12 +9,6 @@ use Prim.Native.Nat.{_+_, _-_, _≤_, _<_}
 use borrow.Author.Needs.{needs}
 use Rattle.walk.proofs.channel_list.Statement.{statement}
 use Rattle.walk.proofs.channel_list.Tie as tie
-use Rattle.walk.proofs.channel_list.Reads as reads
-use Rattle.walk.proofs.channel_list.Lts as lts
-use Rattle.image.proofs.Cn.open.Reads as open-reads
-use Rattle.image.proofs.u32_in.Reads as u32-in-reads
-use Rattle.walk.proofs.Cursor.past_cn.Reads as past-cn-reads
-use Rattle.walk.proofs.channel.Reads as channel-reads
 
 abbrev Inv-loop : tie.InvT-loop
 Inv-loop image width c₀ c =
@@ -27,45 +21,36 @@ Inv-loop image width c₀ c =
 abbrev μ-loop : tie.MeasureT-loop
 μ-loop image width c₀ c = 16384 - c .cns
 
--- src/lib.rt:212:5
 loop-holds : tie.Need-loop-holds Inv-loop μ-loop
 loop-holds c = (refl, refl, omega arith, omega arith, refl)
 
--- src/lib.rt:215:13
 returns : tie.Need-returns Inv-loop μ-loop
 returns c =
     let l = c .before .before .before .before .loop in
     (sym (l .inv .4 ∙ channels-full _ _ _ _ _ (c .before .before .if1 .taken) (c .if2 .taken)), tt)
 
--- src/lib.rt:218:31
 open-requires : tie.Need-open-requires Inv-loop μ-loop
 open-requires c κs = search needs
 
--- src/lib.rt:218:25
 enum-known-cn : tie.Need-enum-known-cn Inv-loop μ-loop
 enum-known-cn c = search needs
 
--- src/lib.rt:219:13
 enum-told : tie.Need-enum-told Inv-loop μ-loop
 enum-told c = search needs
 
--- src/lib.rt:219:13
 returns-2 : tie.Need-returns-2 Inv-loop μ-loop
 returns-2 c =
     let l = c .before .before .before .before .before .before .before .loop in
     (sym (l .inv .4 ∙ channels-shut _ _ _ _ _ (c .before .before .before .before .before .if1 .taken) (omega (arith, l .inv .3, c .before .before .before .if2 .left)) (sym (c .enum-told .given .1) ∙ c .before .before .«open» .ensures)), tt)
 
--- src/lib.rt:221:44
 channel-requires : tie.Need-channel-requires Inv-loop μ-loop
 channel-requires c κs =
     let s = stands CN _ _ _ (sym (c .before .cn .given .1) ∙ c .before .before .before .«open» .ensures) in
     (record { inside = s .inside; least = s .least }, c .before .before .before .before .before .before .before .before .before .before .pre .0)
 
--- src/lib.rt:221:27
 enum-known-number : tie.Need-enum-known-number Inv-loop μ-loop
 enum-known-number c = search needs
 
--- src/lib.rt:222:13
 returns-3 : tie.Need-returns-3 Inv-loop μ-loop
 returns-3 c =
     let l = c .before .before .before .before .before .before .before .before .before .before .before .before .loop in
@@ -75,27 +60,22 @@ returns-3 c =
 enum-told-2 : tie.Need-enum-told-2 Inv-loop μ-loop
 enum-told-2 c = search needs
 
--- src/lib.rt:224:23
 add-past-cn : tie.Need-add-past-cn Inv-loop μ-loop
 add-past-cn c =
     let s = stands CN _ _ _ (sym (c .before .before .before .before .before .cn .given .1) ∙ c .before .before .before .before .before .before .before .«open» .ensures) in
     omega (arith, s .inside, s .least)
 
--- src/lib.rt:224:34
 u32-in-requires : tie.Need-u32-in-requires Inv-loop μ-loop
 u32-in-requires c κs =
     let s = stands CN _ _ _ (sym (c .before .before .before .before .before .cn .given .1) ∙ c .before .before .before .before .before .before .before .«open» .ensures) in
     (omega arith, s .inside)
 
--- src/lib.rt:224:9
 past-cn-requires : tie.Need-past-cn-requires Inv-loop μ-loop
 past-cn-requires c κs = omega (arith, c .before .before .before .before .before .before .before .before .before .before .before .before .before .loop .inv .3, c .before .before .before .before .before .before .before .before .before .if2 .left)
 
--- src/lib.rt:212:5
 loop-less : tie.Need-loop-less Inv-loop μ-loop
 loop-less c = omega (arith, c .past-cn .ensures .4, c .before .before .before .before .before .before .before .before .before .before .before .before .before .before .loop .inv .3, c .before .before .before .before .before .before .before .before .before .before .if2 .left)
 
--- src/lib.rt:212:5
 loop-again : tie.Need-loop-again Inv-loop μ-loop
 loop-again c =
     let l = c .before .before .before .before .before .before .before .before .before .before .before .before .before .before .loop in
@@ -110,7 +90,6 @@ loop-again c =
       rw (m .0, m .1, m .4, c .before .u32-in .ensures .0) (l .inv .4 ∙ g),
     )
 
--- src/lib.rt:207:1
 returns-4 : tie.Need-returns-4 Inv-loop μ-loop
 returns-4 c =
     let l = c .before .before .loop in

@@ -8,54 +8,40 @@ use Prim.Native.Nat.{_+_, _≤_}
 use borrow.Author.Needs.{needs}
 use Rattle.walk.proofs.conversion.Statement.{statement}
 use Rattle.walk.proofs.conversion.Tie as tie
-use Rattle.walk.proofs.conversion.Reads as reads
-use Rattle.walk.proofs.conversion.Lts as lts
-use Rattle.image.proofs.Cc.open.Reads as open-reads
-use Rattle.image.proofs.u16_in.Reads as u16-in-reads
 
--- src/lib.rt:25:9
 returns : tie.Need-returns
 returns c = conversion-none _ _ _ (c .if1 .taken)
 
--- src/lib.rt:27:27
 open-requires : tie.Need-open-requires
 open-requires c κs = search needs
 
--- src/lib.rt:27:21
 enum-known-cc : tie.Need-enum-known-cc
 enum-known-cc c = search needs
 
--- src/lib.rt:28:30
 enum-told : tie.Need-enum-told
 enum-told c = search needs
 
--- src/lib.rt:28:30
 add-t7 : tie.Need-add-t7
 add-t7 c = search needs
 
--- src/lib.rt:28:9
 returns-2 : tie.Need-returns-2
 returns-2 c = conversion-shut _ _ _ (c .before .before .before .if1 .left) (sym (c .enum-told .given .1) ∙ c .before .before .«open» .ensures)
 
--- src/lib.rt:30:8
 u16-in-requires : tie.Need-u16-in-requires
 u16-in-requires c κs =
     let s = stands CC _ _ _ (sym (c .before .cc .given .1) ∙ c .before .before .before .«open» .ensures) in
     (omega arith, s .inside)
 
--- src/lib.rt:31:30
 add-t9 : tie.Need-add-t9
 add-t9 c =
     let s = stands CC _ _ _ (sym (c .before .before .before .before .cc .given .1) ∙ c .before .before .before .before .before .before .«open» .ensures) in
     omega (arith, s .inside, s .least)
 
--- src/lib.rt:31:9
 returns-3 : tie.Need-returns-3
 returns-3 c =
     let s = stands CC _ _ _ (sym (c .before .before .before .before .cc .given .1) ∙ c .before .before .before .before .before .before .«open» .ensures) in
     formula-links _ _ _ (c .before .before .before .before .before .before .before .if1 .left) _ s (sym (c .before .before .u16-in .ensures .0) ∙ c .before .if2 .taken)
 
--- src/lib.rt:20:1
 returns-4 : tie.Need-returns-4
 returns-4 c =
     let s = stands CC _ _ _ (sym (c .before .before .before .cc .given .1) ∙ c .before .before .before .before .before .«open» .ensures) in

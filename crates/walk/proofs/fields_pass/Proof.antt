@@ -8,55 +8,41 @@ use mathlib.Core.Path.{_≡_, sym, _∙_}
 use borrow.Author.Needs.{needs}
 use Rattle.walk.proofs.fields_pass.Statement.{statement}
 use Rattle.walk.proofs.fields_pass.Tie as tie
-use Rattle.walk.proofs.fields_pass.Reads as reads
-use Rattle.walk.proofs.fields_pass.Lts as lts
-use Rattle.image.proofs.u16_in.Reads as u16-in-reads
-use Rattle.walk.proofs.bits_fit.Reads as bits-fit-reads
 
--- src/lib.rt:56:12
 u16-in-requires : tie.Need-u16-in-requires
 u16-in-requires c κs = search needs
 
--- src/lib.rt:57:30
 add-t7 : tie.Need-add-t7
 add-t7 c = search needs
 
--- src/lib.rt:57:9
 returns : tie.Need-returns
 returns c =
     let t = c .before .u16-in .ensures .0 ∙ type-is _ _ (c .before .before .before .pre .0) in
     wrong-type _ _ _ (omega (arith, c .if1 .taken, t))
 
--- src/lib.rt:59:9
 bits-fit-requires : tie.Need-bits-fit-requires
 bits-fit-requires c κs = search needs
 
--- src/lib.rt:60:30
 add-t9 : tie.Need-add-t9
 add-t9 c = search needs
 
--- src/lib.rt:60:9
 returns-2 : tie.Need-returns-2
 returns-2 c =
     let t = c .before .before .before .u16-in .ensures .0 ∙ type-is _ _ (c .before .before .before .before .before .pre .0) in
     wrong-bits _ _ _ (omega (arith, c .before .before .if1 .left, t)) (sym (c .before .bits-fit .ensures) ∙ not-true _ (c .if2 .taken))
 
--- src/lib.rt:62:13
 u16-in-requires-2 : tie.Need-u16-in-requires-2
 u16-in-requires-2 c κs = search needs
 
--- src/lib.rt:63:30
 add-t10 : tie.Need-add-t10
 add-t10 c = search needs
 
--- src/lib.rt:63:9
 returns-3 : tie.Need-returns-3
 returns-3 c =
     let t = c .before .before .before .before .before .u16-in .ensures .0 ∙ type-is _ _ (c .before .before .before .before .before .before .before .pre .0) in
     let d = c .before .u16-in2 .ensures .0 ∙ data-is _ _ (c .before .before .before .before .before .before .before .pre .0) in
     wrong-data _ _ _ (omega (arith, c .before .before .before .before .if1 .left, t)) (sym (c .before .before .before .bits-fit .ensures) ∙ not-false _ (c .before .before .if2 .left)) (omega (arith, c .if3 .taken, d))
 
--- src/lib.rt:51:1
 returns-4 : tie.Need-returns-4
 returns-4 c =
     let t = c .before .before .before .before .before .u16-in .ensures .0 ∙ type-is _ _ (c .before .before .before .before .before .before .before .pre .0) in
