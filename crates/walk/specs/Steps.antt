@@ -1,11 +1,13 @@
 -- The steps of a channel as the code takes them.
 -- Assumes nothing.
 use Prim.Native.Nat.{ℕ, _+_, _≤_}
+use mathlib.Core.Bool.{Bool, not, _&&_, _||_}
 use mathlib.Core.List.{List}
+use lib.Dec.{leb, eqb}
 use Rattle.spec.specs.Bytes.{isNil}
-use Rattle.spec.specs.Answer.{require}
-use Rattle.spec.specs.Block.{Image, Opened, CnBlock, CE, TX, bodyAt}
-use Rattle.spec.specs.Walk.{conversionAt}
+use Rattle.spec.specs.Answer.{Answer, refused, require}
+use Rattle.spec.specs.Block.{Image, Opened, CgBlock, CnBlock, CE, TX, bodyAt}
+use Rattle.spec.specs.Walk.{conversionAt, sizeAllowed}
 use Rattle.image.specs.declared.Span.{Span}
 use Rattle.image.specs.declared.Step.{Step}
 use Rattle.image.specs.declared.Step.the-variants.{Go, Stop}
@@ -35,3 +37,26 @@ unfoldable pub bodiesLast : Image → Opened CnBlock → Step
 bodiesLast image cn =
     stepOf (bodyAt TX image (cn .place + 218) (cn .content .longName))
     then stepOf (bodyAt TX image (cn .place + 222) (cn .content .displayName))
+
+-- a step, then an answer: refused where the step is
+unfoldable pub after : {A : Type 0} → Step → Answer A → Answer A
+after Go m = m
+after (Stop n p) m = refused n p
+
+-- ---- a channel group
+
+pub record HoldsCg (image : List ℕ) (cg : Span) : Type 0 where
+  pub inside : Inside image cg
+  pub least : 26 ≤ cg .size
+
+-- in modes 1 and 2 an ID is at most 255 and new
+abbrev pub idPasses : ℕ → ℕ → Bool → Bool
+idPasses mode id known = eqb mode 0 || leb id 255 && not known
+
+-- the tests of a group before its channels; known: whether its ID was used before
+unfoldable pub groupHead : Image → ℕ → Bool → Opened CgBlock → Step
+groupHead image mode known cg =
+    stepOf (require (isNil (cg .content .reduction)) 6 (cg .place + 26))
+    then stepOf (require (idPasses mode (cg .content .recordID) known) 8 (cg .place + 16))
+    then stepOf (bodyAt TX image (cg .place + 12) (cg .content .comment))
+    then stepOf (require (sizeAllowed (cg .content)) 10 (cg .place + 20))

@@ -8,13 +8,15 @@ use image::Step;
 use image::Tx;
 ghost use mathlib.Core.Path.{_≡_};
 ghost use Prim.Native.Nat.{ℕ, _+_, _≤_, _<_};
-ghost use lib.ListN.{length};
-ghost use Rattle.spec.specs.Bytes.{toLink};
-ghost use Rattle.spec.specs.Block.{imageOf, readCn, readFields};
-ghost use Rattle.spec.specs.Walk.{bitsFit, fieldsPass, conversionAt, channelAt};
+ghost use mathlib.Core.Bool.{not, _||_};
+ghost use lib.Dec.{eqb};
+ghost use lib.ListN.{length, take, set};
+ghost use Rattle.spec.specs.Bytes.{u16, u32, toLink};
+ghost use Rattle.spec.specs.Block.{imageOf, readCg, readCn, readFields};
+ghost use Rattle.spec.specs.Walk.{bitsFit, fieldsPass, conversionAt, channelAt, elem};
 ghost use Rattle.image.specs.Spans.{blockIn, Inside, stepOf, openedAs};
-ghost use Rattle.walk.specs.Steps.{HoldsCn, bodiesFirst, bodiesLast};
-ghost use Rattle.walk.specs.Lists.{StandsAt, channelsFrom, channelsMet, OnlyChannels};
+ghost use Rattle.walk.specs.Steps.{HoldsCn, bodiesFirst, bodiesLast, HoldsCg, idPasses, groupHead};
+ghost use Rattle.walk.specs.Lists.{StandsAt, channelsFrom, channelsMet, OnlyChannels, groupAt, PastGroup, Table};
 
 // ---- a channel
 
@@ -224,4 +226,101 @@ fn channel_list(image: &[u8], width: usize, start: Cursor) -> Walked
         c = c.past_cn(cn.at + 4, image::u32_in(image, cn, 4));
     }
     Walked::Done(c)
+}
+
+// ---- the channel groups of a data group
+
+fn wide(x: u16) -> usize
+    ensures { λ r. ⌜ (r ≡ x) × (r < 65536) ⌝ }
+{
+    x as usize
+}
+
+// Whether the ID of a group is among those of the n groups before it in this data group.
+fn known(image: &[u8], cg: Span, ids: &[u16], n: usize) -> bool
+    requires { ⌜ HoldsCg (now image) cg × (n ≤ length (now ids)) ⌝ }
+    ensures { λ r. ⌜ r ≡ elem (u16 16 (blockIn (now (image .entry)) cg)) (take n (now (ids .entry))) ⌝ }
+{
+    let id = image::u16_in(image, cg, 16);
+    let mut i: usize = 0;
+    while i < n {
+        if id == wide(ids[i]) {
+            return true;
+        }
+        i += 1;
+    }
+    false
+}
+
+fn id_passes(mode: usize, id: usize, known: bool) -> bool
+    ensures { λ r. ⌜ r ≡ idPasses mode id known ⌝ }
+{
+    if mode == 0 {
+        return true;
+    }
+    if 255 < id {
+        return false;
+    }
+    !known
+}
+
+// No records, or a record size.
+fn size_passes(size: usize, count: usize) -> bool
+    ensures { λ r. ⌜ r ≡ (not (eqb size 0) || eqb count 0) ⌝ }
+{
+    if size != 0 {
+        return true;
+    }
+    count == 0
+}
+
+// The tests of a group before its channels.
+fn group_head(image: &[u8], cg: Span, mode: usize, known: bool) -> Step
+    requires { ⌜ HoldsCg (now image) cg ⌝ }
+    ensures { λ r. ⌜ r ≡ groupHead (imageOf (now (image .entry))) mode known (openedAs readCg (now (image .entry)) cg) ⌝ }
+{
+    let at = cg.at;
+    if image::u32_in(image, cg, 26) != 0 {
+        return Step::Stop(6, at + 26);
+    }
+    if !id_passes(mode, image::u16_in(image, cg, 16), known) {
+        return Step::Stop(8, at + 16);
+    }
+    let comment = Tx::body(image, at + 12, image::u32_in(image, cg, 12));
+    let Step::Go = comment else {
+        return comment;
+    };
+    if !size_passes(image::u16_in(image, cg, 20), image::u32_in(image, cg, 22)) {
+        return Step::Stop(10, at + 20);
+    }
+    Step::Go
+}
+
+// One group with its channels: past it, the cursor stands at its next link.
+fn group(image: &[u8], cg: Span, mode: usize, known: bool, c: Cursor) -> Walked
+    requires { ⌜ HoldsCg (now image) cg × (c .cgs < 1024) × (c .cns ≤ 16384) ⌝ }
+    ensures { λ r. ⌜ (channelsMet r ≡ groupAt (imageOf (now (image .entry))) mode known (c .cns) cg) × PastGroup (now (image .entry)) c cg r ⌝ }
+{
+    let at = cg.at;
+    if let Step::Stop(number, place) = group_head(image, cg, mode, known) {
+        return Walked::Refused(number, place);
+    }
+    let first = c.down(at + 8, image::u32_in(image, cg, 8));
+    let w = channel_list(image, image::u16_in(image, cg, 20), first);
+    let Walked::Done(d) = w else {
+        return w;
+    };
+    Walked::Done(d.past_cg(at + 4, image::u32_in(image, cg, 4)))
+}
+
+// The slot of a group, as the n-th of the table.
+fn note(image: &[u8], cg: Span, n: usize, ids: &mut [u16], sizes: &mut [u16], counts: &mut [u32])
+    requires { ⌜ HoldsCg (now image) cg × Table (now ids) (now sizes) (now counts) × (n < 1024) ⌝ }
+    ensures { λ _. ⌜ (now (ids .exit) ≡ set (now (ids .entry)) n (u16 16 (blockIn (now (image .entry)) cg)))
+        × (now (sizes .exit) ≡ set (now (sizes .entry)) n (u16 20 (blockIn (now (image .entry)) cg)))
+        × (now (counts .exit) ≡ set (now (counts .entry)) n (u32 22 (blockIn (now (image .entry)) cg))) ⌝ }
+{
+    ids[n] = image::u16_in(image, cg, 16) as u16;
+    sizes[n] = image::u16_in(image, cg, 20) as u16;
+    counts[n] = image::u32_in(image, cg, 22) as u32;
 }

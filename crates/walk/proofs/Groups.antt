@@ -1,0 +1,53 @@
+-- What the code's tests say of a channel group.
+-- Assumes nothing.
+use Prim.Native.Nat.{ℕ, zero, suc, _+_, _-_, _≤_, _<_}
+use mathlib.Core.Path.{_≡_, refl, sym, _∙_, ap}
+use mathlib.Core.Bool.{Bool, true, false, _||_}
+use mathlib.Core.List.{List, [], _∷_}
+use native.Mathlib.Omega.{arith}
+use native.Mathlib.Numerals.{add-one}
+use lib.Dec.{eqb}
+use lib.ListN.{length, take, drop, getD, drop-of-length-le, length-take}
+use lib.Seq.{drop-cons, getD-take, length-take-le}
+use borrow.Author.Tests.{eq-eqb, ne-eqb}
+use Rattle.spec.specs.Bytes.{u16, u32}
+use Rattle.spec.specs.Answer.{refused}
+use Rattle.spec.specs.Block.{Image, readCg}
+use Rattle.spec.specs.Walk.{elem}
+use Rattle.image.specs.declared.Span.{Span}
+use Rattle.image.specs.declared.Step.the-variants.{Go, Stop}
+use Rattle.image.specs.Spans.{blockIn, openedAs}
+use Rattle.walk.specs.Steps.{after, groupHead}
+use Rattle.walk.specs.Lists.{channelsFrom, groupAt}
+
+-- ---- the search for an ID
+
+module _ (x : ℕ) (ids : List ℕ) (n i : ℕ) (l : n ≤ length ids) where
+  rest : i < n → drop i (take n ids) ≡ getD ids i 0 ∷ drop (i + 1) (take n ids)
+  rest h =
+      let e : i < length (take n ids) = omega (arith, length-take-le n ids l) in
+      drop-cons (take n ids) i 0 e ∙ rw (getD-take n ids i 0 h, add-one i)
+
+  module _ (s : elem x (take n ids) ≡ elem x (drop i (take n ids))) where
+    pub elem-here : i < n → x ≡ getD ids i 0 → true ≡ elem x (take n ids)
+    elem-here h e = sym (s ∙ ap (elem x) (rest h) ∙ rw (eq-eqb x (getD ids i 0) e))
+
+    pub elem-next : i < n → (x ≡ getD ids i 0 → ⊥) → elem x (take n ids) ≡ elem x (drop (i + 1) (take n ids))
+    elem-next h d = s ∙ ap (elem x) (rest h) ∙ rw (ne-eqb x (getD ids i 0) d)
+
+    pub elem-none : n ≤ i → false ≡ elem x (take n ids)
+    elem-none h =
+        let e : length (take n ids) ≤ i = omega (arith, length-take-le n ids l) in
+        sym (s ∙ ap (elem x) (drop-of-length-le (take n ids) e))
+
+-- ---- one group
+
+module _ (image : Image) (mode : ℕ) (known : Bool) (n : ℕ) (b : Span) where
+  pub group-stop : {k q : ℕ} → Stop k q ≡ groupHead image mode known (openedAs readCg (image .bytes) b) → refused k q ≡ groupAt image mode known n b
+  unfolding groupAt after
+  group-stop e = rw (sym e)
+
+  pub group-go : Go ≡ groupHead image mode known (openedAs readCg (image .bytes) b)
+      → channelsFrom image (u16 20 (blockIn (image .bytes) b)) (b .at + 8) (u32 8 (blockIn (image .bytes) b)) n ≡ groupAt image mode known n b
+  unfolding groupAt after
+  group-go e = rw (sym e)

@@ -1,0 +1,28 @@
+//! Images to try a file check on: random valid files, damaged ones, and
+//! named cases with their expected answers. All of it is repeatable.
+
+pub mod cases;
+pub mod mutate;
+pub mod rng;
+pub mod sheet;
+pub mod valid;
+
+use rng::Rng;
+
+/// One image of the random run.
+pub struct Drawn {
+    pub image: Vec<u8>,
+    /// True when nothing was damaged, so that it has to be accepted.
+    pub valid: bool,
+}
+
+/// The image number `index` of the run with this seed.
+pub fn draw(seed: u64, index: u64) -> Drawn {
+    let mut rng = Rng::new(seed ^ index.wrapping_mul(0x9E6C_63D0_876A_3F6B));
+    let made = valid::file(&mut rng);
+    if rng.chance(30) {
+        return Drawn { image: made.bytes, valid: true };
+    }
+    let image = mutate::damage(&mut rng, &made);
+    Drawn { image, valid: false }
+}
