@@ -2,6 +2,7 @@
 use image::Block;
 use image::Cc;
 use image::Ce;
+use image::Cg;
 use image::Cn;
 use image::Span;
 use image::Step;
@@ -9,6 +10,7 @@ use image::Tx;
 ghost use mathlib.Core.Path.{_≡_};
 ghost use Prim.Native.Nat.{ℕ, _+_, _≤_, _<_};
 ghost use mathlib.Core.Bool.{not, _||_};
+ghost use mathlib.Core.List.{[]};
 ghost use lib.Dec.{eqb};
 ghost use lib.ListN.{length, take, set};
 ghost use Rattle.spec.specs.Bytes.{u16, u32, toLink};
@@ -16,7 +18,7 @@ ghost use Rattle.spec.specs.Block.{imageOf, readCg, readCn, readFields};
 ghost use Rattle.spec.specs.Walk.{bitsFit, fieldsPass, conversionAt, channelAt, elem};
 ghost use Rattle.image.specs.Spans.{blockIn, Inside, stepOf, openedAs};
 ghost use Rattle.walk.specs.Steps.{HoldsCn, bodiesFirst, bodiesLast, HoldsCg, idPasses, groupHead};
-ghost use Rattle.walk.specs.Lists.{StandsAt, channelsFrom, channelsMet, OnlyChannels, groupAt, PastGroup, Table};
+ghost use Rattle.walk.specs.Lists.{StandsAt, channelsFrom, channelsMet, OnlyChannels, groupAt, PastGroup, Table, groupsFrom, groupsMet, OnlyGroups};
 
 // ---- a channel
 
@@ -264,14 +266,14 @@ fn id_passes(mode: usize, id: usize, known: bool) -> bool
     !known
 }
 
-// No records, or a record size.
-fn size_passes(size: usize, count: usize) -> bool
-    ensures { λ r. ⌜ r ≡ (not (eqb size 0) || eqb count 0) ⌝ }
+// Where the first number is 0, the second is too.
+fn zero_implies(x: usize, y: usize) -> bool
+    ensures { λ r. ⌜ r ≡ (not (eqb x 0) || eqb y 0) ⌝ }
 {
-    if size != 0 {
+    if x != 0 {
         return true;
     }
-    count == 0
+    y == 0
 }
 
 // The tests of a group before its channels.
@@ -290,7 +292,7 @@ fn group_head(image: &[u8], cg: Span, mode: usize, known: bool) -> Step
     let Step::Go = comment else {
         return comment;
     };
-    if !size_passes(image::u16_in(image, cg, 20), image::u32_in(image, cg, 22)) {
+    if !zero_implies(image::u16_in(image, cg, 20), image::u32_in(image, cg, 22)) {
         return Step::Stop(10, at + 20);
     }
     Step::Go
@@ -323,4 +325,43 @@ fn note(image: &[u8], cg: Span, n: usize, ids: &mut [u16], sizes: &mut [u16], co
     ids[n] = image::u16_in(image, cg, 16) as u16;
     sizes[n] = image::u16_in(image, cg, 20) as u16;
     counts[n] = image::u32_in(image, cg, 22) as u32;
+}
+
+// The channel groups of a data group in this mode, from the cursor's link on. Their slots come into the table.
+fn group_list(
+    image: &[u8],
+    mode: usize,
+    start: Cursor,
+    ids: &mut [u16],
+    sizes: &mut [u16],
+    counts: &mut [u32],
+) -> Walked
+    requires { ⌜ Table (now ids) (now sizes) (now counts) × (start .cgs ≤ 1024) × (start .cns ≤ 16384) ⌝ }
+    ensures { λ r. ⌜ (groupsMet start r (now (ids .exit)) (now (sizes .exit)) (now (counts .exit)) ≡ groupsFrom (imageOf (now (image .entry))) mode [] [] (start .field) (start .link) (start .cgs) (start .cns))
+        × OnlyGroups start r
+        × Table (now (ids .exit)) (now (sizes .exit)) (now (counts .exit)) ⌝ }
+{
+    let before = start.cgs;
+    let mut c = start;
+    while c.link != 0 {
+        let field = c.field;
+        if c.cgs == 1024 {
+            return Walked::Refused(7, field);
+        }
+        let n = c.cgs - before;
+        if !zero_implies(mode, n) {
+            return Walked::Refused(8, field);
+        }
+        let link = c.link;
+        let Block::Open(cg) = Cg::open(image, link) else {
+            return Walked::Refused(5, field);
+        };
+        let w = group(image, cg, mode, known(image, cg, ids, n), c);
+        let Walked::Done(d) = w else {
+            return w;
+        };
+        note(image, cg, n, ids, sizes, counts);
+        c = d;
+    }
+    Walked::Done(c)
 }

@@ -23,6 +23,7 @@ pub fn draw(seed: u64, index: u64) -> Drawn {
     if rng.chance(30) {
         return Drawn { image: made.bytes, valid: true };
     }
-    let image = mutate::damage(&mut rng, &made);
+    let mut image = mutate::damage(&mut rng, &made);
+    image.shrink_to_fit();
     Drawn { image, valid: false }
 }

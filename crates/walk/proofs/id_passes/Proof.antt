@@ -1,18 +1,13 @@
 use borrow.Author.Tests.{eq-eqb, ne-eqb, le-leb, lt-leb}
 use Rattle.walk.proofs.id_passes.Statement.{statement}
 use Rattle.walk.proofs.id_passes.Tie as tie
-use Rattle.walk.proofs.id_passes.Reads as reads
-use Rattle.walk.proofs.id_passes.Lts as lts
 
--- src/lib.rt:259:9
 returns : tie.Need-returns
 returns c = rw (eq-eqb _ _ (c .if1 .taken))
 
--- src/lib.rt:262:9
 returns-2 : tie.Need-returns-2
 returns-2 c = rw (ne-eqb _ _ (c .before .if1 .left), lt-leb _ _ (c .if2 .taken))
 
--- src/lib.rt:255:1
 returns-3 : tie.Need-returns-3
 returns-3 c = rw (ne-eqb _ _ (c .before .if1 .left), le-leb _ _ (c .if2 .left))
 

@@ -8,10 +8,6 @@ use Prim.Native.Nat.{_-_, _≤_}
 use borrow.Author.Needs.{needs}
 use Rattle.walk.proofs.known.Statement.{statement}
 use Rattle.walk.proofs.known.Tie as tie
-use Rattle.walk.proofs.known.Reads as reads
-use Rattle.walk.proofs.known.Lts as lts
-use Rattle.image.proofs.u16_in.Reads as u16-in-reads
-use Rattle.walk.proofs.wide.Reads as wide-reads
 
 abbrev Inv-loop : tie.InvT-loop
 Inv-loop image ids n id i₀ i = (i ≤ n) × (elem id (take n ids) ≡ elem id (drop i (take n ids)))
@@ -19,51 +15,41 @@ Inv-loop image ids n id i₀ i = (i ≤ n) × (elem id (take n ids) ≡ elem id 
 abbrev μ-loop : tie.MeasureT-loop
 μ-loop image ids n id i₀ i = n - i
 
--- src/lib.rt:244:9
 u16-in-requires : tie.Need-u16-in-requires Inv-loop μ-loop
 u16-in-requires c κs = (omega arith, c .before .before .pre .0 .inside)
 
--- src/lib.rt:246:5
 loop-holds : tie.Need-loop-holds Inv-loop μ-loop
 loop-holds c = (omega arith, refl)
 
--- src/lib.rt:247:23
 mul-wide : tie.Need-mul-wide Inv-loop μ-loop
 mul-wide c = search needs
 
--- src/lib.rt:247:23
 shared-slice-read-wide : tie.Need-shared-slice-read-wide Inv-loop μ-loop
 shared-slice-read-wide c = search needs
 
--- src/lib.rt:247:18
 wide-requires : tie.Need-wide-requires Inv-loop μ-loop
 wide-requires c κs = search needs
 
--- src/lib.rt:248:13
 returns : tie.Need-returns Inv-loop μ-loop
-returns c = 
+returns c =
     let l = c .before .before .before .before .loop in
     let a = c .before .before .before .before .before .before .before .before .args in
     rw (c .before .before .before .before .before .u16-in .ensures .0) at (elem-here (c .before .before .before .before .before .u16-in .result) (now (a .ids)) (a .n) (l .i) (c .before .before .before .before .before .before .before .before .pre .1) (l .inv .1) (c .before .before .before .loop-test .taken) (c .if1 .taken ∙ c .before .wide .ensures .0))
 
--- src/lib.rt:250:9
 add-i : tie.Need-add-i Inv-loop μ-loop
 add-i c = search needs
 
--- src/lib.rt:246:5
 loop-less : tie.Need-loop-less Inv-loop μ-loop
 loop-less c = search needs
 
--- src/lib.rt:246:5
 loop-again : tie.Need-loop-again Inv-loop μ-loop
-loop-again c = 
+loop-again c =
     let l = c .before .before .before .before .loop in
     let a = c .before .before .before .before .before .before .before .before .args in
     (omega arith, elem-next (c .before .before .before .before .before .u16-in .result) (now (a .ids)) (a .n) (l .i) (c .before .before .before .before .before .before .before .before .pre .1) (l .inv .1) (c .before .before .before .loop-test .taken) (λ e. c .if1 .left (e ∙ sym (c .before .wide .ensures .0))))
 
--- src/lib.rt:240:1
 returns-2 : tie.Need-returns-2 Inv-loop μ-loop
-returns-2 c = 
+returns-2 c =
     let l = c .before .loop in
     let a = c .before .before .before .before .before .args in
     rw (c .before .before .u16-in .ensures .0) at (elem-none (c .before .before .u16-in .result) (now (a .ids)) (a .n) (l .i) (c .before .before .before .before .before .pre .1) (l .inv .1) (c .loop-test .left))

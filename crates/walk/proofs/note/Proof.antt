@@ -1,72 +1,52 @@
 use borrow.Author.Needs.{needs}
 use Rattle.walk.proofs.note.Statement.{statement}
 use Rattle.walk.proofs.note.Tie as tie
-use Rattle.walk.proofs.note.Reads as reads
-use Rattle.walk.proofs.note.Lts as lts
-use Rattle.image.proofs.u16_in.Reads as u16-in-reads
-use Rattle.image.proofs.u32_in.Reads as u32-in-reads
 
--- src/lib.rt:323:14
 u16-in-requires : tie.Need-u16-in-requires
 u16-in-requires c κs = search needs
 
--- src/lib.rt:323:14
 cast-ids : tie.Need-cast-ids
 cast-ids c = search needs
 
--- src/lib.rt:323:5
 mul-ids : tie.Need-mul-ids
 mul-ids c = search needs
 
--- src/lib.rt:323:5
 slice-write-ids : tie.Need-slice-write-ids
 slice-write-ids c = search needs
 
--- src/lib.rt:324:16
 u16-in-requires-2 : tie.Need-u16-in-requires-2
 u16-in-requires-2 c κs = search needs
 
--- src/lib.rt:324:16
 cast-sizes : tie.Need-cast-sizes
 cast-sizes c = search needs
 
--- src/lib.rt:324:5
 mul-sizes : tie.Need-mul-sizes
 mul-sizes c = search needs
 
--- src/lib.rt:324:5
 slice-write-sizes : tie.Need-slice-write-sizes
 slice-write-sizes c = search needs
 
--- src/lib.rt:325:17
 u32-in-requires : tie.Need-u32-in-requires
 u32-in-requires c κs = search needs
 
--- src/lib.rt:325:17
 cast-counts : tie.Need-cast-counts
 cast-counts c = search needs
 
--- src/lib.rt:325:5
 mul-counts : tie.Need-mul-counts
 mul-counts c = search needs
 
--- src/lib.rt:325:5
 slice-write-counts : tie.Need-slice-write-counts
 slice-write-counts c = search needs
 
--- src/lib.rt:317:1
 same-length : tie.Need-same-length
 same-length c = search needs
 
--- src/lib.rt:317:1
 same-length-2 : tie.Need-same-length-2
 same-length-2 c = search needs
 
--- src/lib.rt:317:1
 same-length-3 : tie.Need-same-length-3
 same-length-3 c = search needs
 
--- src/lib.rt:317:1
 returns : tie.Need-returns
 returns c = (rw (c .before .before .u16-in .ensures .0), rw (c .before .u16-in2 .ensures .0), rw (c .u32-in .ensures .0))
 

@@ -16,7 +16,8 @@ pub fn damage(rng: &mut Rng, made: &Made) -> Vec<u8> {
             30..=34 => splice(rng, &mut bytes),
             35..=54 => rewrite_link(rng, made, &mut bytes),
             55..=58 => make_loop(rng, made, &mut bytes),
-            59..=80 => rewrite_field(rng, made, &mut bytes),
+            59..=77 => rewrite_field(rng, made, &mut bytes),
+            78..=80 => empty_record(rng, made, &mut bytes),
             81..=88 => change_data(rng, made, &mut bytes),
             89..=94 => change_identification(rng, &mut bytes),
             _ => swap_fields(rng, made, &mut bytes),
@@ -59,7 +60,7 @@ fn flip_bit(rng: &mut Rng, made: &Made, bytes: &mut [u8]) {
 
 fn set_byte(rng: &mut Rng, made: &Made, bytes: &mut [u8]) {
     let place = some_place(rng, made, bytes.len());
-    let any = rng.next();
+    let any = rng.raw();
     let value = rng.pick(&[0, 1, 2, 3, 12, 17, 0x7F, 0x80, 0xFE, 0xFF, any]);
     write(bytes, place, value & 0xFF, 1);
 }
@@ -97,9 +98,9 @@ fn splice(rng: &mut Rng, bytes: &mut Vec<u8>) {
         }
         1 => {
             let first = rng.below(other.len());
-            let length = rng.below(256).min(other.len() - first);
-            for place in first..(first + length).min(bytes.len()) {
-                bytes[place] = other[place];
+            let last = (first + rng.below(256)).min(other.len()).min(bytes.len());
+            if first < last {
+                bytes[first..last].copy_from_slice(&other[first..last]);
             }
         }
         _ => {
@@ -164,7 +165,7 @@ fn rewrite_field(rng: &mut Rng, made: &Made, bytes: &mut [u8]) {
     };
     let old = read(bytes, site.place, site.width);
     let near = [old.wrapping_add(1), old.wrapping_sub(1), old.wrapping_add(8)];
-    let any = rng.next();
+    let any = rng.raw();
     let values: &[u64] = match site.what {
         What::BlockSize => &[0, 3, 4, 5, 6, 24, 26, 29, 30, 46, 164, 218, 227, 228, 65535],
         What::Mode => &[0, 1, 2, 3, 256, 65535],
@@ -186,6 +187,16 @@ fn rewrite_field(rng: &mut Rng, made: &Made, bytes: &mut [u8]) {
     write(bytes, site.place, value, site.width);
 }
 
+/// Record size 0 for a group that mostly wants records.
+fn empty_record(rng: &mut Rng, made: &Made, bytes: &mut [u8]) {
+    let Some(site) = pick_site(rng, made, |w| w == What::RecordSize) else {
+        return;
+    };
+    write(bytes, site.place, 0, 2);
+    let count = rng.pick(&[0, 1, 1, 2, 0x0100_0000, 0xFFFF_FFFF]);
+    write(bytes, site.place + 2, count, 4);
+}
+
 /// Changes a byte of the records, where the IDs are.
 fn change_data(rng: &mut Rng, made: &Made, bytes: &mut [u8]) {
     let filled: Vec<(usize, usize)> =
@@ -195,7 +206,7 @@ fn change_data(rng: &mut Rng, made: &Made, bytes: &mut [u8]) {
     }
     let (place, length) = rng.pick(&filled);
     let at = place + if rng.chance(30) { 0 } else { rng.below(length) };
-    let any = rng.next();
+    let any = rng.raw();
     let value = rng.pick(&[0, 1, 2, 3, 255, any]);
     write(bytes, at, value & 0xFF, 1);
 }
@@ -209,7 +220,7 @@ fn change_identification(rng: &mut Rng, bytes: &mut [u8]) {
         }
         2 => {
             let place = rng.below(8);
-            let any = rng.next();
+            let any = rng.raw();
             let value = rng.pick(&[0, 0x20, 0x4D, any]);
             write(bytes, place, value & 0xFF, 1);
         }

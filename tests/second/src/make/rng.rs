@@ -7,7 +7,7 @@ impl Rng {
         Rng(seed)
     }
 
-    pub fn next(&mut self) -> u64 {
+    pub fn raw(&mut self) -> u64 {
         self.0 = self.0.wrapping_add(0x9E37_79B9_7F4A_7C15);
         let mut z = self.0;
         z = (z ^ (z >> 30)).wrapping_mul(0xBF58_476D_1CE4_E5B9);
@@ -20,7 +20,7 @@ impl Rng {
         if bound == 0 {
             return 0;
         }
-        (self.next() % bound as u64) as usize
+        (self.raw() % bound as u64) as usize
     }
 
     /// A number from `low` to `high`, both included.
@@ -38,7 +38,7 @@ impl Rng {
     }
 
     pub fn bytes(&mut self, count: usize) -> Vec<u8> {
-        (0..count).map(|_| self.next() as u8).collect()
+        (0..count).map(|_| self.raw() as u8).collect()
     }
 
     pub fn shuffle<T>(&mut self, list: &mut [T]) {

@@ -484,6 +484,11 @@ fn lay_down(rng: &mut Rng, plan: Plan) -> Made {
         let gap = rng.between(1, 20);
         bytes.extend(rng.bytes(gap));
     }
+    // Records that may lie anywhere still have to fit after place 0.
+    let needed = plan.anywhere.iter().map(|a| a.1 + 1).max().unwrap_or(0);
+    if bytes.len() < needed {
+        bytes.resize(needed, 0);
+    }
     fill_links(rng, &plan, &places, &mut bytes);
     describe(&plan, &places, bytes)
 }
@@ -495,8 +500,7 @@ fn fill_links(rng: &mut Rng, plan: &Plan, places: &[usize], bytes: &mut [u8]) {
         }
     }
     for &(node, length) in &plan.anywhere {
-        // Place 0 is nil; the image is always longer than the records here.
-        let last = bytes.len().saturating_sub(length).max(1);
+        let last = bytes.len() - length;
         let place = if rng.chance(25) { last } else { rng.between(1, last) };
         set32(bytes, places[node] + 16, place as u32);
     }

@@ -1,0 +1,206 @@
+//! Compares the library's file check with the second implementation.
+//!
+//! Named cases first, then random images, then very long ones. Exit code 0
+//! when all answers agree, 1 at a difference, 2 for wrong options.
+
+mod big;
+mod library;
+
+use second::make::{self, cases};
+use second::mdf;
+use std::path::PathBuf;
+use std::process::ExitCode;
+use std::sync::atomic::{AtomicBool, Ordering};
+use std::time::Instant;
+
+const DEFAULT_COUNT: u64 = 120_000;
+const DEFAULT_SEED: u64 = 0x4D44_4633;
+const WORKERS: u64 = 2;
+const MOST_TOLD: u64 = 20;
+
+/// Number and place.
+pub type Answer = (u32, u64);
+
+pub struct Options {
+    count: u64,
+    seed: u64,
+    out: PathBuf,
+}
+
+/// How many images gave each number.
+#[derive(Clone, Copy, Default)]
+pub struct Tally([u64; 12]);
+
+impl Tally {
+    fn note(&mut self, answer: Answer) {
+        if let Some(cell) = self.0.get_mut(answer.0 as usize) {
+            *cell += 1;
+        }
+    }
+
+    fn add(&mut self, other: &Tally) {
+        for (cell, more) in self.0.iter_mut().zip(other.0) {
+            *cell += more;
+        }
+    }
+
+    fn print(&self, label: &str) {
+        let parts: Vec<String> =
+            self.0.iter().enumerate().map(|(n, count)| format!("{n}:{count}")).collect();
+        println!("{label}: {}", parts.join(" "));
+    }
+}
+
+/// The second implementation's answer.
+pub fn second_answer(image: &[u8]) -> Answer {
+    match mdf::check(image) {
+        Ok(_) => (0, 0),
+        Err(refusal) => (refusal.number, refusal.place),
+    }
+}
+
+/// Tells of a difference and keeps the image.
+pub fn report(options: &Options, name: &str, image: Option<&[u8]>, difference: &Difference) {
+    let mut text = format!("DIFFERENCE in {name}\n");
+    for (label, value) in &difference.0 {
+        text += &format!("  {label}: {value}\n");
+    }
+    if let Some(image) = image {
+        let plain: String =
+            name.chars().map(|c| if c.is_ascii_alphanumeric() { c } else { '-' }).collect();
+        let short: String = plain.chars().take(120).collect();
+        let path = options.out.join(format!("second-{short}.mdf"));
+        match std::fs::write(&path, image) {
+            Ok(()) => text += &format!("  image: {}\n", path.display()),
+            Err(error) => text += &format!("  image not kept: {error}\n"),
+        }
+    }
+    print!("{text}");
+}
+
+pub fn shown(answer: &Result<Answer, String>) -> String {
+    match answer {
+        Ok((number, place)) => format!("number {number}, place {place}"),
+        Err(trouble) => trouble.clone(),
+    }
+}
+
+/// What was answered when the answers differ.
+pub struct Difference(Vec<(&'static str, String)>);
+
+/// Compares both answers with each other and with what is expected.
+pub fn compare(image: &[u8], expected: Option<Answer>) -> Result<Answer, Difference> {
+    let second = second_answer(image);
+    let library = library::check(image.as_ptr(), image.len());
+    let wanted = expected.unwrap_or(second);
+    if second == wanted && library == Ok(wanted) {
+        return Ok(wanted);
+    }
+    let mut lines = vec![("library", shown(&library)), ("second", shown(&Ok(second)))];
+    if expected.is_some() {
+        lines.push(("expected", shown(&Ok(wanted))));
+    }
+    Err(Difference(lines))
+}
+
+/// All named cases; the first differences are told, all are counted.
+fn run_named(options: &Options) -> Option<Tally> {
+    let mut tally = Tally::default();
+    let list = cases::all();
+    let mut wrong = 0;
+    for case in &list {
+        let expected = Some((case.number, case.place));
+        match compare(&case.image, expected) {
+            Ok(answer) => tally.note(answer),
+            Err(difference) => {
+                wrong += 1;
+                if wrong <= MOST_TOLD {
+                    report(options, &case.name, Some(&case.image), &difference);
+                }
+            }
+        }
+    }
+    println!("{} named cases, {wrong} wrong", list.len());
+    (wrong == 0).then_some(tally)
+}
+
+/// Every `WORKERS`th image from `first` on; stops at a difference.
+fn run_share(options: &Options, first: u64, stop: &AtomicBool) -> Tally {
+    let mut tally = Tally::default();
+    let mut index = first;
+    while index < options.count && !stop.load(Ordering::Relaxed) {
+        let drawn = make::draw(options.seed, index);
+        let expected = drawn.valid.then_some((0, 0));
+        match compare(&drawn.image, expected) {
+            Ok(answer) => tally.note(answer),
+            Err(difference) => {
+                let name = format!("seed {} index {index}", options.seed);
+                report(options, &name, Some(&drawn.image), &difference);
+                stop.store(true, Ordering::Relaxed);
+            }
+        }
+        index += WORKERS;
+    }
+    tally
+}
+
+fn run_random(options: &Options) -> Option<Tally> {
+    let stop = AtomicBool::new(false);
+    let mut total = Tally::default();
+    std::thread::scope(|scope| {
+        let shares: Vec<_> = (0..WORKERS)
+            .map(|first| {
+                let stop = &stop;
+                scope.spawn(move || run_share(options, first, stop))
+            })
+            .collect();
+        for share in shares {
+            total.add(&share.join().expect("a worker broke off"));
+        }
+    });
+    println!("{} random images, seed {}", options.count, options.seed);
+    (!stop.load(Ordering::Relaxed)).then_some(total)
+}
+
+fn read_options() -> Result<Options, String> {
+    let mut options =
+        Options { count: DEFAULT_COUNT, seed: DEFAULT_SEED, out: std::env::temp_dir() };
+    let mut words = std::env::args().skip(1);
+    while let Some(word) = words.next() {
+        let value = words.next().ok_or(format!("{word} needs a value"))?;
+        let number = || value.parse::<u64>().map_err(|e| format!("{word} {value}: {e}"));
+        match word.as_str() {
+            "--count" => options.count = number()?,
+            "--seed" => options.seed = number()?,
+            "--out" => options.out = PathBuf::from(&value),
+            _ => return Err(format!("unknown option {word}")),
+        }
+    }
+    Ok(options)
+}
+
+fn main() -> ExitCode {
+    let options = match read_options() {
+        Ok(options) => options,
+        Err(trouble) => {
+            eprintln!("{trouble}\nusage: compare [--count N] [--seed S] [--out FOLDER]");
+            return ExitCode::from(2);
+        }
+    };
+    println!("library: {}", library::NAME);
+    let mut total = Tally::default();
+    type Part = fn(&Options) -> Option<Tally>;
+    let parts: [(&str, Part); 3] =
+        [("named", run_named), ("random", run_random), ("long", big::run)];
+    for (label, part) in parts {
+        let begin = Instant::now();
+        let Some(tally) = part(&options) else {
+            println!("{label}: answers differ");
+            return ExitCode::from(1);
+        };
+        total.add(&tally);
+        tally.print(&format!("{label} ({:.1} s)", begin.elapsed().as_secs_f64()));
+    }
+    total.print("outcomes");
+    ExitCode::SUCCESS
+}
