@@ -1,10 +1,10 @@
 -- One turn of the walk over the channel groups of a data group.
 -- Assumes nothing.
-use Prim.Native.Nat.{ℕ, zero, suc, _+_, _-_, _≤_, _<_}
+use Prim.Native.Nat.{ℕ, zero, suc, _+_, _-_, _<_}
 use mathlib.Core.Path.{_≡_, refl, sym, _∙_, ap, ap₂}
-use mathlib.Core.Bool.{Bool, true, false}
+use mathlib.Core.Bool.{true, false}
 use mathlib.Core.List.{List, [], _∷_, _++_, map, append-nil, append-assoc}
-use mathlib.Core.Option.{Option, none, some}
+use mathlib.Core.Option.{none}
 use native.Mathlib.Omega.{arith}
 use lib.ListN.{length}
 use Rattle.spec.specs.Bytes.{u16, u32, toLink}
@@ -12,7 +12,7 @@ use Rattle.spec.specs.Answer.{Answer, refused, accepted, _>>=_, mapAnswer}
 use Rattle.spec.specs.Block.{Image, CG, opening, Opened, CgBlock, readCg}
 use Rattle.spec.specs.Records.{Slot}
 use Rattle.spec.specs.Found.{FoundBody, FoundChannel, FoundGroup, slotOf}
-use Rattle.spec.specs.Walk.{elem, groupAllowed, channelList, groupList, channelCount}
+use Rattle.spec.specs.Walk.{elem, groupAllowed, groupList}
 use Rattle.spec.proofs.Answers.{step, pass, stop, fail}
 use Rattle.image.specs.declared.Span.{Span}
 use Rattle.image.specs.declared.Block.the-variants.{Shut}

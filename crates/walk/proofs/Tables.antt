@@ -1,6 +1,6 @@
 -- The table of slots that the walk over channel groups fills.
 -- Assumes nothing.
-use Prim.Native.Nat.{ℕ, zero, suc, _+_, _-_, _≤_, _<_}
+use Prim.Native.Nat.{ℕ, _+_, _<_}
 use mathlib.Core.Path.{_≡_, refl, sym, _∙_, ap}
 use mathlib.Core.Bool.{Bool, true, false, not, _||_}
 use mathlib.Core.List.{List, [], _∷_, _++_}
@@ -9,13 +9,12 @@ use native.Mathlib.Numerals.{add-one}
 use lib.Dec.{eqb}
 use lib.ListN.{length, take, set, length-set}
 use lib.Seq.{take-suc-set, length-take-le}
-use borrow.Author.Tests.{eq-eqb, ne-eqb}
+use borrow.Author.Tests.{ne-eqb}
 use Rattle.spec.specs.Block.{Image}
 use Rattle.spec.specs.Records.{Slot}
 use Rattle.spec.specs.Walk.{elem, isEmpty, groupAllowed}
-use Rattle.image.specs.declared.Span.{Span}
-use Rattle.records.specs.Slots.{slotsOf, Alike}
-use Rattle.walk.specs.Lists.{slotIn, groupsFrom, Table}
+use Rattle.records.specs.Slots.{slotsOf}
+use Rattle.walk.specs.Lists.{groupsFrom, Table}
 
 -- ---- one slot more
 

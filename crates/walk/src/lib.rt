@@ -139,7 +139,7 @@ pub enum Walked {
 
 impl Cursor {
     // At the first link of a file.
-    fn new(field: usize, link: usize) -> Self
+    pub fn new(field: usize, link: usize) -> Self
         ensures { λ r. ⌜ StandsAt r field link 0 0 0 ⌝ }
     {
         Cursor {
@@ -152,7 +152,7 @@ impl Cursor {
     }
 
     // At the first link of a list below.
-    fn down(self, field: usize, link: usize) -> Self
+    pub fn down(self, field: usize, link: usize) -> Self
         ensures { λ r. ⌜ StandsAt r field link (self .dgs) (self .cgs) (self .cns) ⌝ }
     {
         Cursor {
@@ -165,7 +165,7 @@ impl Cursor {
     }
 
     // Past a data group, at its next link.
-    fn past_dg(self, field: usize, link: usize) -> Self
+    pub fn past_dg(self, field: usize, link: usize) -> Self
         requires { ⌜ self .dgs < 1024 ⌝ }
         ensures { λ r. ⌜ StandsAt r field link (self .dgs + 1) (self .cgs) (self .cns) ⌝ }
     {
@@ -328,7 +328,7 @@ fn note(image: &[u8], cg: Span, n: usize, ids: &mut [u16], sizes: &mut [u16], co
 }
 
 // The channel groups of a data group in this mode, from the cursor's link on. Their slots come into the table.
-fn group_list(
+pub fn group_list(
     image: &[u8],
     mode: usize,
     start: Cursor,

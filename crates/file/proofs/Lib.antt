@@ -1,0 +1,2 @@
+pub mod DataGroups
+pub mod Files
