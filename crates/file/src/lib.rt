@@ -70,7 +70,7 @@ fn data_group(image: &[u8], dg: Span, c: Cursor) -> Walked
 // The verdict on an image: passed, or rejected with the number and the place of a refusal.
 pub enum Verdict {
     Passed,
-    Rejected(u64, usize),
+    Rejected(u32, usize),
 }
 
 // The data groups from the cursor's link on.

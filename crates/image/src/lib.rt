@@ -117,7 +117,7 @@ pub fn u64_in(image: &[u8], b: Span, offset: usize) -> u64
 // Passed, or refused with a number and a place.
 pub enum Step {
     Go,
-    Stop(u64, usize),
+    Stop(u32, usize),
 }
 
 // ---- the kinds of block: identifier as a number of two bytes, least and written size. Those without a written size are written at their own.

@@ -134,7 +134,7 @@ pub struct Cursor {
 // A list walked to its end, or a refusal with number and place.
 pub enum Walked {
     Done(Cursor),
-    Refused(u64, usize),
+    Refused(u32, usize),
 }
 
 impl Cursor {

@@ -1,0 +1,90 @@
+// The calls for C programs: include/mdf3.h declares them.
+use file::Verdict;
+ghost use mathlib.Core.Path.{_≡_};
+ghost use Prim.Native.Nat.{ℕ};
+ghost use Rattle.spec.specs.Bytes.{bytesOf};
+ghost use Rattle.mdf3.specs.Answers.{answerBytes, checkNumber, checkAnswer};
+
+// A number as 8 bytes, little endian.
+fn word(x: u64) -> [u8; 8]
+    ensures { λ r. ⌜ r ≡ bytesOf 8 x ⌝ }
+{
+    let x1 = x / 256;
+    let x2 = x1 / 256;
+    let x3 = x2 / 256;
+    let x4 = x3 / 256;
+    let x5 = x4 / 256;
+    let x6 = x5 / 256;
+    let x7 = x6 / 256;
+    [
+        (x % 256) as u8,
+        (x1 % 256) as u8,
+        (x2 % 256) as u8,
+        (x3 % 256) as u8,
+        (x4 % 256) as u8,
+        (x5 % 256) as u8,
+        (x6 % 256) as u8,
+        (x7 % 256) as u8,
+    ]
+}
+
+// Place, value, length and kind, as the answer holds them.
+fn answer_bytes(place: u64, value: u64, size: u64, kind: u64) -> [u8; 32]
+    ensures { λ r. ⌜ r ≡ answerBytes place value size kind ⌝ }
+{
+    let p = word(place);
+    let v = word(value);
+    let s = word(size);
+    let k = word(kind);
+    [
+        p[0],
+        p[1],
+        p[2],
+        p[3],
+        p[4],
+        p[5],
+        p[6],
+        p[7],
+        v[0],
+        v[1],
+        v[2],
+        v[3],
+        v[4],
+        v[5],
+        v[6],
+        v[7],
+        s[0],
+        s[1],
+        s[2],
+        s[3],
+        s[4],
+        s[5],
+        s[6],
+        s[7],
+        k[0],
+        k[1],
+        k[2],
+        k[3],
+        k[4],
+        k[5],
+        k[6],
+        k[7],
+    ]
+}
+
+// Whether an image is accepted: the number is returned, the answer holds the place.
+#[no_mangle]
+pub extern "C" fn mdf3_check(image: &[u8], answer: &mut [u8; 32]) -> u32
+    ensures { λ r. ⌜ (r ≡ checkNumber (now (image .entry))) × (now (answer .exit) ≡ checkAnswer (now (image .entry))) ⌝ }
+{
+    match file::check(image) {
+        Verdict::Passed => {
+            *answer = answer_bytes(0, 0, 0, 0);
+            0
+        }
+        Verdict::Rejected(number, place) => {
+            *answer = answer_bytes(place as u64, 0, 0, 0);
+            number
+        }
+    }
+}
