@@ -1,0 +1,94 @@
+/* Grousepenny: MDF 3 files (versions 3.00 to 3.31) in memory.
+ *
+ * Every call ends, for any bytes and any numbers. It returns one of the
+ * numbers below and fills an answer of 32 bytes. No call keeps a pointer,
+ * allocates memory, reads a clock or a file, or has a state: calls from
+ * several threads at once are fine as long as no memory that one of them
+ * writes is used by another.
+ *
+ * What the caller must keep, for each call:
+ *   - image points to image_len bytes that can be read, and that nobody
+ *     changes before the call returns. image_len is at most SIZE_MAX / 2.
+ *     Where image_len is 0 nothing is read through image; it may point
+ *     anywhere, and must not be NULL.
+ *   - answer points to 32 bytes that can be written. They do not overlap
+ *     the image.
+ * Less than 16 KB of stack is used.
+ *
+ * The archive is built for x86-64 Linux.
+ */
+#ifndef MDF3_H
+#define MDF3_H
+
+#include <stddef.h>
+#include <stdint.h>
+
+#ifdef __cplusplus
+extern "C" {
+#endif
+
+/* The numbers that calls return. With each the answer holds one place: an
+ * offset in the image, except where another meaning is given. The first
+ * fault in the order of docs/RULES.md decides, and there is never more
+ * than one. Calls so far give 0 to 11; 12 to 16 belong to copying and
+ * sampling, which are not in the library yet.
+ *
+ *    0  done. The place is 0.
+ *    1  the image is longer than 2,147,483,647 bytes. Place 0.
+ *    2  the image is shorter than 64 bytes, or does not begin as an MDF 3
+ *       file does. Place 0.
+ *    3  the file was not finalized by its logger. Place 0.
+ *    4  byte order or float format is not 0, or the version is not 300 to
+ *       399: the place of that field (24, 26, 28).
+ *    5  a link leads to no block of the kind wanted: the place of the link
+ *       field. 64 for the header block.
+ *    6  something that is not supported. A trigger, a sample reduction or a
+ *       channel dependency: the place of that link field. A conversion of
+ *       formula 12: the place of its formula field.
+ *    7  more than 1,024 data groups, 1,024 channel groups or 16,384
+ *       channels in the file: the place of the link field that leads to
+ *       the first one too many. Lists without an end are caught here.
+ *    8  record IDs. More than two ID bytes: the place of that field in the
+ *       data group. A second channel group where records have no IDs: the
+ *       link field that leads to it. An ID above 255 or used by an earlier
+ *       channel group of the data group: the place of the ID.
+ *    9  a channel of unknown type, with bits outside its record, or of
+ *       unknown data type: the place of the type, of the start bit, or of
+ *       the data type.
+ *   10  a channel group with records of no bytes: the place of its record
+ *       size.
+ *   11  records. Some are due and the data link is nil: the place of that
+ *       link field. Otherwise the first byte, ID included, of the first
+ *       record that has an unknown ID, belongs to a group that has all its
+ *       records, does not lie in the image with its IDs, or whose second ID
+ *       differs.
+ *   12  the canonical copy would be longer than 2,147,483,647 bytes.
+ *       Place 0.
+ *   13  the output is shorter than the canonical copy: the length needed
+ *       stands in the place.
+ *   14  no such channel group, channel or record. Place 0.
+ *   15  the sample cannot be read: the place of the channel's data type.
+ *   16  the sample has no physical value. Place 0.
+ */
+
+/* The answer: four numbers of 64 bits, lowest byte first.
+ *
+ *   offset  0  the place
+ *   offset  8  the value
+ *   offset 16  the length
+ *   offset 24  the kind
+ *
+ * What does not apply to a call is 0. The answer is written whole by every
+ * call, whatever it returns.
+ */
+#define MDF3_ANSWER_SIZE 32
+
+/* Whether the image is accepted: returns 0, or 1 to 11. The answer holds the
+ * place; value, length and kind are 0. */
+uint32_t mdf3_check(const uint8_t *image, size_t image_len, uint8_t answer[MDF3_ANSWER_SIZE]);
+
+#ifdef __cplusplus
+}
+#endif
+
+#endif
