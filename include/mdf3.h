@@ -35,33 +35,39 @@ extern "C" {
  *
  *    0  done. The place is 0.
  *    1  the image is longer than 2,147,483,647 bytes. Place 0.
- *    2  the image is shorter than 64 bytes, or does not begin as an MDF 3
- *       file does. Place 0.
- *    3  the file was not finalized by its logger. Place 0.
+ *    2  the image is shorter than 64 bytes, or begins neither with "MDF" and
+ *       five spaces nor as in 3. Place 0.
+ *    3  the image begins with "UnFinMF" and a space: its logger did not
+ *       finalize it. Place 0.
  *    4  byte order or float format is not 0, or the version is not 300 to
  *       399: the place of that field (24, 26, 28).
- *    5  a link leads to no block of the kind wanted: the place of the link
- *       field. 64 for the header block.
+ *    5  a link leads to no block of the kind wanted: it points outside, the
+ *       identifier is another, the size is too small for the kind, or the
+ *       block runs past the end. The place of the link field; 64 for the
+ *       header block.
  *    6  something that is not supported. A trigger, a sample reduction or a
  *       channel dependency: the place of that link field. A conversion of
  *       formula 12: the place of its formula field.
  *    7  more than 1,024 data groups, 1,024 channel groups or 16,384
  *       channels in the file: the place of the link field that leads to
- *       the first one too many. Lists without an end are caught here.
+ *       the first one too many. Lists without an end are caught here,
+ *       those of channel groups here or by 8.
  *    8  record IDs. More than two ID bytes: the place of that field in the
  *       data group. A second channel group where records have no IDs: the
- *       link field that leads to it. An ID above 255 or used by an earlier
- *       channel group of the data group: the place of the ID.
+ *       link field that leads to it. Where records have IDs, an ID above 255 or
+ *       used by an earlier channel group of the data group: the place of
+ *       the ID.
  *    9  a channel of unknown type, with bits outside its record, or of
  *       unknown data type: the place of the type, of the start bit, or of
  *       the data type.
- *   10  a channel group with records of no bytes: the place of its record
- *       size.
+ *   10  a channel group has record size 0, though its record count is not
+ *       0: the place of the record size.
  *   11  records. Some are due and the data link is nil: the place of that
- *       link field. Otherwise the first byte, ID included, of the first
- *       record that has an unknown ID, belongs to a group that has all its
- *       records, does not lie in the image with its IDs, or whose second ID
- *       differs.
+ *       link field. Otherwise one of them is at fault, and its place is
+ *       that of its ID, or of its first byte where it has none: no channel
+ *       group has this ID, or the group has its full count already, or the
+ *       image ends before the record and its IDs do, or the ID behind the
+ *       record is not the one before it. The first such record counts.
  *   12  the canonical copy would be longer than 2,147,483,647 bytes.
  *       Place 0.
  *   13  the output is shorter than the canonical copy: the length needed

@@ -3,12 +3,11 @@
 use Prim.Native.Nat.{ℕ, _+_, _≤_, _<_}
 use mathlib.Core.Path.{_≡_, refl, sym, _∙_, ap}
 use mathlib.Core.Bool.{Bool, true, false, _&&_, _||_}
-use mathlib.Core.List.{List, _∷_}
+use mathlib.Core.List.{List}
 use native.Mathlib.Omega.{arith}
-use native.Mathlib.Numerals.{add-one}
 use lib.Dec.{leb}
-use lib.ListN.{length, take, drop, getD, drop-of-length-le}
-use lib.Seq.{drop-cons, getD-take, length-take-le, take-take}
+use lib.ListN.{length, take}
+use lib.Seq.{take-take}
 use borrow.Author.Tests.{le-leb, lt-leb, eq-eqb, ne-eqb}
 use Rattle.spec.specs.Bytes.{sameBytes, u16, u32, toLink}
 use Rattle.spec.specs.Answer.{Answer, refused, accepted, _>>=_, require, passed}
@@ -50,25 +49,6 @@ module _ (image : Image) (g n : ℕ) (b : Span) where
     pub mode-go : u16 22 (blockIn (image .bytes) b) ≤ 2 → groupsThenLog image (u16 22 (blockIn (image .bytes) b)) g n b ≡ dataGroupAt image g n b
     unfolding dataGroupAt
     mode-go h = after-go (nil-go _ 6 (b .at + 12) e) (after-go (test-go _ 8 (b .at + 22) (le-leb _ _ h)) refl)
-
--- ---- the identifier
-
-module _ (xs ys : List ℕ) (i : ℕ) (a : length ys ≡ 8) (b : 8 ≤ length xs) (s : sameBytes (take 8 xs) ys ≡ sameBytes (drop i (take 8 xs)) (drop i ys)) where
-  rests : i < 8 → (drop i (take 8 xs) ≡ getD xs i 0 ∷ drop (i + 1) (take 8 xs)) × (drop i ys ≡ getD ys i 0 ∷ drop (i + 1) ys)
-  rests h =
-      let e : i < length (take 8 xs) = omega (arith, length-take-le 8 xs b) in
-      (drop-cons (take 8 xs) i 0 e ∙ rw (getD-take 8 xs i 0 h, add-one i), drop-cons ys i 0 (omega arith) ∙ rw (add-one i))
-
-  pub name-differs : i < 8 → (getD xs i 0 ≡ getD ys i 0 → ⊥) → false ≡ sameBytes (take 8 xs) ys
-  name-differs h d = sym (s ∙ rw (rests h .0, rests h .1, ne-eqb (getD xs i 0) (getD ys i 0) d))
-
-  pub name-next : i < 8 → getD xs i 0 ≡ getD ys i 0 → sameBytes (take 8 xs) ys ≡ sameBytes (drop (i + 1) (take 8 xs)) (drop (i + 1) ys)
-  name-next h e = s ∙ rw (rests h .0, rests h .1, eq-eqb (getD xs i 0) (getD ys i 0) e)
-
-  pub name-same : 8 ≤ i → true ≡ sameBytes (take 8 xs) ys
-  name-same h =
-      let e : length (take 8 xs) ≤ i = omega (arith, length-take-le 8 xs b) in
-      sym (s ∙ rw (drop-of-length-le (take 8 xs) e, drop-of-length-le ys {i = i} (omega arith)))
 
 -- ---- ID
 

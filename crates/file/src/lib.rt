@@ -2,6 +2,7 @@
 use image::Block;
 use image::Dg;
 use image::Hd;
+use image::Id;
 use image::Pr;
 use image::Span;
 use image::Step;
@@ -11,7 +12,6 @@ use walk::Walked;
 ghost use mathlib.Core.Path.{_≡_};
 ghost use Prim.Native.Nat.{ℕ, _+_, _≤_, _<_};
 ghost use lib.ListN.{length, take};
-ghost use Rattle.spec.specs.Bytes.{sameBytes};
 ghost use Rattle.spec.specs.Answer.{passed};
 ghost use Rattle.spec.specs.Block.{imageOf};
 ghost use Rattle.spec.specs.Walk.{identPasses, fileFrom};
@@ -103,33 +103,17 @@ fn data_groups(image: &[u8], start: Cursor) -> Verdict
 
 // ---- the file
 
-// Whether the image begins with this identifier.
-fn named(image: &[u8], name: [u8; 8]) -> bool
-    requires { ⌜ 8 ≤ length (now image) ⌝ }
-    ensures { λ r. ⌜ r ≡ sameBytes (take 8 (now (image .entry))) name ⌝ }
-{
-    let mut i: usize = 0;
-    while i < 8 {
-        if image[i] != name[i] {
-            return false;
-        }
-        i += 1;
-    }
-    true
-}
-
 // The ID block: identifier, byte order, float format, version.
 fn ident(image: &[u8]) -> Step
     requires { ⌜ 64 ≤ length (now image) ⌝ }
     ensures { λ r. ⌜ r ≡ stepOf (identPasses (take 64 (now (image .entry)))) ⌝ }
 {
-    if !named(image, [77, 68, 70, 32, 32, 32, 32, 32]) {
-        if named(image, [85, 110, 70, 105, 110, 77, 70, 32]) {
+    let Block::Open(id) = Id::open(image) else {
+        if Id::named(image, Id::UNFINALIZED) {
             return Step::Stop(3, 0);
         }
         return Step::Stop(2, 0);
-    }
-    let id = Span { at: 0, size: 64 };
+    };
     if image::u16_in(image, id, 24) != 0 {
         return Step::Stop(4, 24);
     }
@@ -169,7 +153,7 @@ pub fn check(image: &[u8]) -> Verdict
     if 2147483647 < image.len() {
         return Verdict::Rejected(1, 0);
     }
-    if image.len() < 64 {
+    if image.len() < Id::LEAST {
         return Verdict::Rejected(2, 0);
     }
     if let Step::Stop(number, place) = ident(image) {

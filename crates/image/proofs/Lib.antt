@@ -2,3 +2,4 @@ pub mod Numbers
 pub mod Opening
 pub mod Fields
 pub mod Blocks
+pub mod Ident

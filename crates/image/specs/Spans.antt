@@ -1,11 +1,13 @@
 -- What the functions on blocks give, as the definitions of `spec` say it.
 -- Assumes nothing.
 use Prim.Native.Nat.{ℕ, _+_, _/_, _%_, _≤_}
+use mathlib.Core.Bool.{_&&_, cond}
 use mathlib.Core.List.{List}
+use lib.Dec.{leb}
 use lib.ListN.{length, take, drop}
-use Rattle.spec.specs.Bytes.{number, field}
+use Rattle.spec.specs.Bytes.{sameBytes, number, field}
 use Rattle.spec.specs.Answer.{Answer, refused, accepted}
-use Rattle.spec.specs.Block.{Kind, Opened}
+use Rattle.spec.specs.Block.{Kind, Opened, finalized}
 use Rattle.image.specs.declared.Span.{Span}
 use Rattle.image.specs.declared.Block.{Block}
 use Rattle.image.specs.declared.Block.the-variants.{Open, Shut}
@@ -44,3 +46,8 @@ stepOf (accepted a) = Go
 -- an opened block as its reader gives it
 abbrev pub openedAs : {A : Type 0} → (List ℕ → A) → List ℕ → Span → Opened A
 openedAs read image b = record { place = b .at; size = b .size; content = read (blockIn image b) }
+
+-- ID: the first 64 bytes, where they are there and begin with the identifier
+unfoldable pub identBlock : List ℕ → Block
+identBlock image =
+    cond (leb 64 (length image) && sameBytes (take 8 image) finalized) (Open (record { at = 0; size = 64 })) Shut

@@ -1,10 +1,10 @@
-// Numbers and blocks of an image. Every function takes any place: a byte beyond the image's end reads as 0.
+// Numbers, blocks and their fields. A block may be looked for at any place; a byte beyond the image's end reads as 0.
 ghost use mathlib.Core.Path.{_≡_};
 ghost use Prim.Native.Nat.{ℕ, _+_, _^_, _≤_, _<_};
-ghost use lib.ListN.{length, getD};
-ghost use Rattle.spec.specs.Bytes.{u16, u32, u64, toLink};
+ghost use lib.ListN.{length, take, getD};
+ghost use Rattle.spec.specs.Bytes.{sameBytes, u16, u32, u64, toLink};
 ghost use Rattle.spec.specs.Block.{imageOf, opening, bodyAt, HD, DG, CG, CN, CC, TX, PR, CE};
-ghost use Rattle.image.specs.Spans.{numberAt, kindOf, blockOf, blockIn, Inside, fieldNumber, stepOf};
+ghost use Rattle.image.specs.Spans.{numberAt, kindOf, blockOf, blockIn, Inside, fieldNumber, stepOf, identBlock};
 
 // ---- numbers
 
@@ -121,6 +121,49 @@ pub enum Step {
 }
 
 // ---- the kinds of block: identifier as a number of two bytes, least and written size. Those without a written size are written at their own.
+
+// The identification, at 0. No link leads to it, it holds no size, and its identifiers have 8 bytes.
+pub struct Id;
+
+impl Id {
+    pub const ID: [u8; 8] = [77, 68, 70, 32, 32, 32, 32, 32];
+    // That of a file that was not finalized.
+    pub const UNFINALIZED: [u8; 8] = [85, 110, 70, 105, 110, 77, 70, 32];
+
+    pub const LEAST: usize = 64;
+
+    pub const WRITTEN: usize = 64;
+
+    // Whether the image begins with this identifier.
+    pub fn named(image: &[u8], name: [u8; 8]) -> bool
+        requires { ⌜ 8 ≤ length (now image) ⌝ }
+        ensures { λ r. ⌜ r ≡ sameBytes (take 8 (now (image .entry))) name ⌝ }
+    {
+        let mut i: usize = 0;
+        while i < 8 {
+            if image[i] != name[i] {
+                return false;
+            }
+            i += 1;
+        }
+        true
+    }
+
+    pub fn open(image: &[u8]) -> Block
+        ensures { λ r. ⌜ r ≡ identBlock (now (image .entry)) ⌝ }
+    {
+        if image.len() < Self::LEAST {
+            return Block::Shut;
+        }
+        if !Self::named(image, Self::ID) {
+            return Block::Shut;
+        }
+        Block::Open(Span {
+            at: 0,
+            size: Self::LEAST,
+        })
+    }
+}
 
 // The header, at 64.
 pub struct Hd;

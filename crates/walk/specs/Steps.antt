@@ -1,4 +1,4 @@
--- The steps of a channel as the code takes them.
+-- The steps of a channel and of a channel group's head, as the code takes them.
 -- Assumes nothing.
 use Prim.Native.Nat.{ℕ, _+_, _≤_}
 use mathlib.Core.Bool.{Bool, not, _&&_, _||_}

@@ -1,4 +1,4 @@
-// The walk over an image, against the definitions of `spec`: refusals 1 to 11.
+// Channels and channel groups, against the definitions of `spec`: refusals 5 to 10.
 use image::Block;
 use image::Cc;
 use image::Ce;

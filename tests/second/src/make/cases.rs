@@ -42,6 +42,9 @@ pub fn all() -> Vec<Case> {
     limits::cases(&mut book);
     records::cases(&mut book);
     order::cases(&mut book);
+    // The sample file has version 200, and no other fault.
+    book.expect("sample file", include_bytes!("../../../data/sample000.mdf"), 4, 28);
+    book.accept("sample file as version 300", include_bytes!("../../../data/sample000_v300.mdf"));
     book.cases
 }
 

@@ -1,4 +1,4 @@
-use Rattle.file.proofs.Files.{name-differs, name-next, name-same}
+use Rattle.image.proofs.Ident.{name-differs, name-next, name-same}
 use Rattle.spec.specs.Bytes.{sameBytes}
 use lib.ListN.{take, drop}
 use denote.Ref.{now}
@@ -6,8 +6,8 @@ use native.Mathlib.Omega.{arith}
 use mathlib.Core.Path.{_≡_, refl}
 use Prim.Native.Nat.{_-_, _≤_}
 use borrow.Author.Needs.{needs}
-use Rattle.file.proofs.named.Statement.{statement}
-use Rattle.file.proofs.named.Tie as tie
+use Rattle.image.proofs.Id.named.Statement.{statement}
+use Rattle.image.proofs.Id.named.Tie as tie
 
 abbrev Inv-loop : tie.InvT-loop
 Inv-loop image name i₀ i = (i ≤ 8) × (sameBytes (take 8 image) name ≡ sameBytes (drop i (take 8 image)) (drop i name))

@@ -1,0 +1,77 @@
+-- The identification block.
+-- Assumes nothing.
+use Prim.Native.Nat.{ℕ, _+_, _≤_, _<_}
+use mathlib.Core.Path.{_≡_, refl, sym, _∙_}
+use mathlib.Core.Bool.{Bool, true, false, cond}
+use mathlib.Core.List.{List, _∷_}
+use native.Mathlib.Omega.{arith}
+use native.Mathlib.Numerals.{add-one}
+use lib.ListN.{length, take, drop, getD, drop-of-length-le}
+use lib.Seq.{drop-cons, getD-take, length-take-le}
+use borrow.Author.Tests.{le-leb, lt-leb, eq-eqb, ne-eqb}
+use Rattle.spec.specs.Bytes.{sameBytes}
+use Rattle.spec.specs.Block.{finalized}
+use Rattle.image.specs.declared.Span.{Span}
+use Rattle.image.specs.declared.Block.the-variants.{Open, Shut}
+use Rattle.image.specs.Spans.{blockIn, Inside, identBlock}
+
+-- ---- the identifier
+
+module _ (xs ys : List ℕ) (i : ℕ) (a : length ys ≡ 8) (b : 8 ≤ length xs) (s : sameBytes (take 8 xs) ys ≡ sameBytes (drop i (take 8 xs)) (drop i ys)) where
+  rests : i < 8 → (drop i (take 8 xs) ≡ getD xs i 0 ∷ drop (i + 1) (take 8 xs)) × (drop i ys ≡ getD ys i 0 ∷ drop (i + 1) ys)
+  rests h =
+      let e : i < length (take 8 xs) = omega (arith, length-take-le 8 xs b) in
+      (drop-cons (take 8 xs) i 0 e ∙ rw (getD-take 8 xs i 0 h, add-one i), drop-cons ys i 0 (omega arith) ∙ rw (add-one i))
+
+  pub name-differs : i < 8 → (getD xs i 0 ≡ getD ys i 0 → ⊥) → false ≡ sameBytes (take 8 xs) ys
+  name-differs h d = sym (s ∙ rw (rests h .0, rests h .1, ne-eqb (getD xs i 0) (getD ys i 0) d))
+
+  pub name-next : i < 8 → getD xs i 0 ≡ getD ys i 0 → sameBytes (take 8 xs) ys ≡ sameBytes (drop (i + 1) (take 8 xs)) (drop (i + 1) ys)
+  name-next h e = s ∙ rw (rests h .0, rests h .1, eq-eqb (getD xs i 0) (getD ys i 0) e)
+
+  pub name-same : 8 ≤ i → true ≡ sameBytes (take 8 xs) ys
+  name-same h =
+      let e : length (take 8 xs) ≤ i = omega (arith, length-take-le 8 xs b) in
+      sym (s ∙ rw (drop-of-length-le (take 8 xs) e, drop-of-length-le ys {i = i} (omega arith)))
+
+-- ---- its opening
+
+module _ (b : List ℕ) where
+  pub ident-short : length b < 64 → Shut ≡ identBlock b
+  unfolding identBlock
+  ident-short h = rw (lt-leb 64 (length b) h)
+
+  module _ (l : 64 ≤ length b) where
+    pub ident-other : sameBytes (take 8 b) finalized ≡ false → Shut ≡ identBlock b
+    unfolding identBlock
+    ident-other f = rw (le-leb 64 (length b) l, f)
+
+    pub ident-named : sameBytes (take 8 b) finalized ≡ true → Open (record { at = 0; size = 64 }) ≡ identBlock b
+    unfolding identBlock
+    ident-named f = rw (le-leb 64 (length b) l, f)
+
+    ident-is : (t : Bool) → sameBytes (take 8 b) finalized ≡ t → identBlock b ≡ cond t (Open (record { at = 0; size = 64 })) Shut
+    unfolding identBlock
+    ident-is t f = rw (le-leb 64 (length b) l, f)
+
+    pub ident-shut : Shut ≡ identBlock b → sameBytes (take 8 b) finalized ≡ false
+    ident-shut e = go (sameBytes (take 8 b) finalized) refl
+      where
+        go : (t : Bool) → sameBytes (take 8 b) finalized ≡ t → sameBytes (take 8 b) finalized ≡ false
+        go true f = let e' = e ∙ ident-is true f in let z : _≡_ {A = ℕ} 0 1 = cc in absurd (omega arith)
+        go false f = f
+
+    pub record IdentStands (s : Span) : Type 0 where
+      pub named : sameBytes (take 8 b) finalized ≡ true
+      pub inside : Inside b s
+      pub bytes : blockIn b s ≡ take 64 b
+
+    pub ident-stands : (s : Span) → Open s ≡ identBlock b → IdentStands s
+    ident-stands s e = go (sameBytes (take 8 b) finalized) refl
+      where
+        go : (t : Bool) → sameBytes (take 8 b) finalized ≡ t → IdentStands s
+        go true f =
+            let e' = e ∙ ident-is true f in
+            let i : s ≡ record { at = 0; size = 64 } = cc in
+            record { named = f; inside = rw i (omega arith); bytes = rw i refl }
+        go false f = let e' = e ∙ ident-is false f in let z : _≡_ {A = ℕ} 0 1 = cc in absurd (omega arith)
