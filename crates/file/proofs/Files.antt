@@ -53,12 +53,6 @@ module _ (image : Image) (g n : ℕ) (b : Span) where
 -- ---- ID
 
 module _ (b : List ℕ) where
-  abbrev finals : Bool
-  finals = sameBytes (take 8 b) finalized
-
-  abbrev unfinals : Bool
-  unfinals = sameBytes (take 8 b) unfinalized
-
   short : take 8 (take 64 b) ≡ take 8 b
   short = take-take 8 64 b (omega arith)
 
