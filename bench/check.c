@@ -1,7 +1,8 @@
-/* How long mdf3_check takes, beside a plain read and a memcpy of the same bytes, in one run.
+/* How long mdf3_check takes, beside a check in plain C, a plain read and a memcpy of the same bytes, in one run.
  * The figures are ratios; nothing here passes or fails by time. */
 #define _POSIX_C_SOURCE 200809L
 #include "mdf3.h"
+#include "plain.h"
 
 #include <stdio.h>
 #include <stdlib.h>
@@ -100,10 +101,14 @@ static double best(int what, const uint8_t *image, size_t length, uint8_t *to, i
         double start = now();
         for (int i = 0; i < rounds; i++) {
             uint8_t answer[MDF3_ANSWER_SIZE];
+            uint64_t place;
             if (what == 0) {
                 if (mdf3_check(image, length, answer) != 0)
                     exit(1);
             } else if (what == 1) {
+                if (plain_check(image, length, &place) != 0)
+                    exit(1);
+            } else if (what == 2) {
                 plain_read(image, length);
             } else {
                 memcpy(to, image, length);
@@ -125,10 +130,11 @@ static void measure(const char *name, size_t room, unsigned mode, int rounds)
     size_t length = make(image, room, mode);
     memset(to, 1, room);
     double check = best(0, image, length, to, rounds);
-    double read = best(1, image, length, to, rounds);
-    double copy = best(2, image, length, to, rounds);
-    printf("%-28s %9zu bytes  check %12.0f ns  read %12.0f ns  memcpy %12.0f ns  check/read %6.2f  check/memcpy %6.2f\n",
-           name, length, check, read, copy, check / read, check / copy);
+    double plain = best(1, image, length, to, rounds);
+    double read = best(2, image, length, to, rounds);
+    double copy = best(3, image, length, to, rounds);
+    printf("%-26s %8zu bytes %9.0f ns, by plain C %9.0f, read %9.0f, memcpy %9.0f: ratios %5.2f %5.2f %5.2f\n",
+           name, length, check, plain, read, copy, check / plain, check / read, check / copy);
     free(image);
     free(to);
 }
