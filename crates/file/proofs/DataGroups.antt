@@ -23,7 +23,7 @@ use Rattle.walk.specs.Steps.{after}
 use Rattle.records.specs.Slots.{slotsOf, Alike}
 use Rattle.records.proofs.Turns.{length-slots}
 use Rattle.walk.specs.Lists.{Summary, summed, groupsFrom, Table}
-use Rattle.walk.proofs.GroupList.{after-bind}
+use Rattle.walk.proofs.GroupList.{after-bind, seen-then}
 use Rattle.file.specs.DataGroups.{Counts, groupsThenLog, dataGroupAt, dataGroupsFrom}
 
 -- ---- one data group
@@ -46,9 +46,7 @@ module _ (image : Image) (mode g n : ℕ) (b : Span) where
 -- ---- a turn
 
 pub passed-then : {A B : Type 0} (m : Answer A) (f : A → Answer B) (t : Answer (Unit {0})) → ((a : A) → passed (f a) ≡ t) → passed (m >>= f) ≡ after (stepOf m) t
-unfolding _>>=_ after
-passed-then (refused k p) f t h = refl
-passed-then (accepted a) f t h = h a
+passed-then = seen-then passed (λ k p. refl)
 
 passed-more : {A : Type 0} (a : A) (m : Answer (List A)) → passed (m >>= λ rest. accepted (a ∷ rest)) ≡ passed m
 unfolding _>>=_

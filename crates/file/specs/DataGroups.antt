@@ -12,7 +12,7 @@ use Rattle.spec.specs.Records.{logOf}
 use Rattle.spec.specs.Walk.{dataGroupList}
 use Rattle.spec.specs.Call.{Outcome, outcomeOf}
 use Rattle.image.specs.declared.Span.{Span}
-use Rattle.image.specs.Spans.{blockIn, Inside, stepOf}
+use Rattle.image.specs.Spans.{blockIn, stepOf}
 use Rattle.walk.specs.declared.Cursor.{Cursor}
 use Rattle.walk.specs.declared.Walked.{Walked}
 use Rattle.walk.specs.declared.Walked.the-variants.{Done, Refused}
@@ -20,10 +20,6 @@ use Rattle.file.specs.declared.Verdict.{Verdict}
 use Rattle.file.specs.declared.Verdict.the-variants.{Passed, Rejected}
 use Rattle.walk.specs.Steps.{after}
 use Rattle.walk.specs.Lists.{groupsFrom}
-
-pub record HoldsDg (image : List ℕ) (dg : Span) : Type 0 where
-  pub inside : Inside image dg
-  pub least : 24 ≤ dg .size
 
 -- how many channel groups and channels the file has so far
 pub record Counts : Type 0 where

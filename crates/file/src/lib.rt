@@ -16,14 +16,14 @@ ghost use Rattle.spec.specs.Answer.{passed};
 ghost use Rattle.spec.specs.Block.{imageOf};
 ghost use Rattle.spec.specs.Walk.{identPasses, fileFrom};
 ghost use Rattle.spec.specs.Call.{checkOutcome};
-ghost use Rattle.image.specs.Spans.{stepOf};
-ghost use Rattle.file.specs.DataGroups.{HoldsDg, groupsThenLog, dataGroupAt, countsMet, PastDataGroup, dataGroupsFrom, answerOf, outcome};
+ghost use Rattle.image.specs.Spans.{Holds, stepOf};
+ghost use Rattle.file.specs.DataGroups.{groupsThenLog, dataGroupAt, countsMet, PastDataGroup, dataGroupsFrom, answerOf, outcome};
 
 // ---- data groups
 
 // The channel groups of a data group in this mode, then its records: past it, the cursor stands at its next link.
 fn groups_then_log(image: &[u8], dg: Span, mode: usize, c: Cursor) -> Walked
-    requires { ⌜ HoldsDg (now image) dg × (mode ≤ 2) × (c .dgs < 1024) × (c .cgs ≤ 1024) × (c .cns ≤ 16384) ⌝ }
+    requires { ⌜ Holds 24 (now image) dg × (mode ≤ 2) × (c .dgs < 1024) × (c .cgs ≤ 1024) × (c .cns ≤ 16384) ⌝ }
     ensures { λ r. ⌜ (countsMet r ≡ groupsThenLog (imageOf (now (image .entry))) mode (c .cgs) (c .cns) dg) × PastDataGroup (now (image .entry)) c dg r ⌝ }
 {
     let at = dg.at;
@@ -53,7 +53,7 @@ fn groups_then_log(image: &[u8], dg: Span, mode: usize, c: Cursor) -> Walked
 
 // A data group: no trigger, a mode, then what it holds.
 fn data_group(image: &[u8], dg: Span, c: Cursor) -> Walked
-    requires { ⌜ HoldsDg (now image) dg × (c .dgs < 1024) × (c .cgs ≤ 1024) × (c .cns ≤ 16384) ⌝ }
+    requires { ⌜ Holds 24 (now image) dg × (c .dgs < 1024) × (c .cgs ≤ 1024) × (c .cns ≤ 16384) ⌝ }
     ensures { λ r. ⌜ (countsMet r ≡ dataGroupAt (imageOf (now (image .entry))) (c .cgs) (c .cns) dg) × PastDataGroup (now (image .entry)) c dg r ⌝ }
 {
     let at = dg.at;

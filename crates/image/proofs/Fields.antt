@@ -4,8 +4,9 @@ use Prim.Native.Nat.{ℕ, zero, suc, _+_, _≤_, _<_}
 use mathlib.Core.Path.{_≡_, refl, sym, _∙_, ap}
 use mathlib.Core.List.{List, [], _∷_}
 use native.Mathlib.Omega.{arith}
-use lib.ListN.{length, take, drop, replicate, length-drop}
-use lib.Seq.{drop-drop, take-take, length-take-le}
+use native.Mathlib.Numerals.{add-one}
+use lib.ListN.{length, take, drop, getD, replicate, length-drop}
+use lib.Seq.{drop-cons, drop-drop, getD-take, take-take, length-take-le}
 use borrow.Author.Tests.{lt-leb}
 use Rattle.spec.specs.Bytes.{number, field}
 use Rattle.spec.proofs.Places.{field-in}
@@ -17,6 +18,12 @@ drop-take zero n size xs h = take-take n size xs (omega arith)
 drop-take (suc off) n zero xs h = absurd (omega arith)
 drop-take (suc off) n (suc size) [] h = refl
 drop-take (suc off) n (suc size) (x ∷ xs) h = drop-take off n size xs (omega arith)
+
+-- what is left of the first n at i begins with the i-th
+pub part-next : (n i : ℕ) (xs : List ℕ) → n ≤ length xs → i < n → drop i (take n xs) ≡ getD xs i 0 ∷ drop (i + 1) (take n xs)
+part-next n i xs l h =
+    let e : i < length (take n xs) = omega (arith, length-take-le n xs l) in
+    drop-cons (take n xs) i 0 e ∙ rw (getD-take n xs i 0 h, add-one i)
 
 number-zeros : (n : ℕ) → number (replicate n 0) ≡ 0
 number-zeros zero = refl

@@ -7,21 +7,20 @@ use mathlib.Core.List.{List, _∷_}
 use native.Mathlib.Omega.{arith}
 use native.Mathlib.Numerals.{add-one}
 use lib.ListN.{length, take, drop, getD, drop-of-length-le}
-use lib.Seq.{drop-cons, getD-take, length-take-le}
+use lib.Seq.{drop-cons, length-take-le}
 use borrow.Author.Tests.{le-leb, lt-leb, eq-eqb, ne-eqb}
 use Rattle.spec.specs.Bytes.{sameBytes}
 use Rattle.spec.specs.Block.{finalized}
 use Rattle.image.specs.declared.Span.{Span}
 use Rattle.image.specs.declared.Block.the-variants.{Open, Shut}
 use Rattle.image.specs.Spans.{blockIn, Inside, identBlock}
+use Rattle.image.proofs.Fields.{part-next}
 
 -- ---- the identifier
 
 module _ (xs ys : List ℕ) (i : ℕ) (a : length ys ≡ 8) (b : 8 ≤ length xs) (s : sameBytes (take 8 xs) ys ≡ sameBytes (drop i (take 8 xs)) (drop i ys)) where
   rests : i < 8 → (drop i (take 8 xs) ≡ getD xs i 0 ∷ drop (i + 1) (take 8 xs)) × (drop i ys ≡ getD ys i 0 ∷ drop (i + 1) ys)
-  rests h =
-      let e : i < length (take 8 xs) = omega (arith, length-take-le 8 xs b) in
-      (drop-cons (take 8 xs) i 0 e ∙ rw (getD-take 8 xs i 0 h, add-one i), drop-cons ys i 0 (omega arith) ∙ rw (add-one i))
+  rests h = (part-next 8 i xs b h, drop-cons ys i 0 (omega arith) ∙ rw (add-one i))
 
   pub name-differs : i < 8 → (getD xs i 0 ≡ getD ys i 0 → ⊥) → false ≡ sameBytes (take 8 xs) ys
   name-differs h d = sym (s ∙ rw (rests h .0, rests h .1, ne-eqb (getD xs i 0) (getD ys i 0) d))

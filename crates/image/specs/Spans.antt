@@ -34,6 +34,11 @@ blockIn image b = take (b .size) (drop (b .at) image)
 abbrev pub Inside : List ℕ → Span → Type 0
 Inside image b = b .at + b .size ≤ length image
 
+-- a span that a block of a kind of this least size may fill
+pub record Holds (n : ℕ) (image : List ℕ) (b : Span) : Type 0 where
+  pub inside : Inside image b
+  pub least : n ≤ b .size
+
 -- a field of n bytes of a block, as a number
 abbrev pub fieldNumber : List ℕ → Span → ℕ → ℕ → ℕ
 fieldNumber image b offset n = number (field n offset (blockIn image b))

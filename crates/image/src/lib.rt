@@ -14,6 +14,12 @@ fn wide(x: u8) -> u64
     x as u64
 }
 
+pub fn wide16(x: u16) -> usize
+    ensures { λ r. ⌜ (r ≡ x) × (r < 65536) ⌝ }
+{
+    x as usize
+}
+
 pub fn byte(image: &[u8], at: usize) -> u64
     ensures { λ r. ⌜ (r ≡ getD (now (image .entry)) at 0) × (r < 256) ⌝ }
 {

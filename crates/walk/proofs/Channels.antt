@@ -19,10 +19,10 @@ use Rattle.image.specs.declared.Span.{Span}
 use Rattle.image.specs.declared.Block.the-variants.{Shut}
 use Rattle.image.specs.declared.Step.{Step}
 use Rattle.image.specs.declared.Step.the-variants.{Go, Stop}
-use Rattle.image.specs.Spans.{blockOf, blockIn, stepOf}
+use Rattle.image.specs.Spans.{blockOf, blockIn, Holds, stepOf}
 use Rattle.image.proofs.Fields.{block-length, drop-take}
 use Rattle.image.proofs.Blocks.{not-nil, Stands, body-shut, body-open}
-use Rattle.walk.specs.Steps.{_then_, HoldsCn, bodiesFirst, bodiesLast}
+use Rattle.walk.specs.Steps.{_then_, bodiesFirst, bodiesLast}
 
 -- ---- steps
 
@@ -115,7 +115,7 @@ main-u16 off block o l =
     ∙ sym (field-in 2 off (take 194 (drop 24 block)) (omega (arith, f)))
     ∙ ap (field 2 off) (sym (field-in 194 24 block (omega arith))))
 
-module _ (image : List ℕ) (cn : Span) (h : HoldsCn image cn) where
+module _ (image : List ℕ) (cn : Span) (h : Holds 218 image cn) where
   long : 218 ≤ length (blockIn image cn)
   long = omega (arith, block-length image cn (h .inside), h .least)
 

@@ -35,10 +35,14 @@ unfolding after _>>=_
 after-bind Go m f = refl
 after-bind (Stop n p) m f = refl
 
-summed-then : {A : Type 0} (ss : List Slot) (n : ℕ) (m : Answer A) (f : A → Answer (List FoundGroup)) (t : Answer Summary) → ((a : A) → summed ss n (f a) ≡ t) → summed ss n (m >>= f) ≡ after (stepOf m) t
+-- what is made of an answer, where refusals stay: of a first part and the rest
+pub seen-then : {A B C : Type 0} (o : Answer B → Answer C) → ((k p : ℕ) → o (refused k p) ≡ refused k p) → (m : Answer A) (f : A → Answer B) (t : Answer C) → ((a : A) → o (f a) ≡ t) → o (m >>= f) ≡ after (stepOf m) t
 unfolding _>>=_ after
-summed-then ss n (refused k p) f t h = refl
-summed-then ss n (accepted a) f t h = h a
+seen-then o r (refused k p) f t h = r k p
+seen-then o r (accepted a) f t h = h a
+
+summed-then : {A : Type 0} (ss : List Slot) (n : ℕ) (m : Answer A) (f : A → Answer (List FoundGroup)) (t : Answer Summary) → ((a : A) → summed ss n (f a) ≡ t) → summed ss n (m >>= f) ≡ after (stepOf m) t
+summed-then ss n = seen-then (summed ss n) (λ k p. refl)
 
 -- one group in front of the rest
 summed-more : (ss : List Slot) (n : ℕ) (g : FoundGroup) (m : Answer (List FoundGroup))

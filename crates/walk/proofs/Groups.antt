@@ -3,11 +3,10 @@
 use Prim.Native.Nat.{ℕ, _+_, _≤_, _<_}
 use mathlib.Core.Path.{_≡_, sym, _∙_, ap}
 use mathlib.Core.Bool.{Bool, true, false}
-use mathlib.Core.List.{List, _∷_}
+use mathlib.Core.List.{List}
 use native.Mathlib.Omega.{arith}
-use native.Mathlib.Numerals.{add-one}
 use lib.ListN.{length, take, drop, getD, drop-of-length-le}
-use lib.Seq.{drop-cons, getD-take, length-take-le}
+use lib.Seq.{length-take-le}
 use borrow.Author.Tests.{eq-eqb, ne-eqb}
 use Rattle.spec.specs.Bytes.{u16, u32}
 use Rattle.spec.specs.Answer.{refused}
@@ -16,23 +15,19 @@ use Rattle.spec.specs.Walk.{elem}
 use Rattle.image.specs.declared.Span.{Span}
 use Rattle.image.specs.declared.Step.the-variants.{Go, Stop}
 use Rattle.image.specs.Spans.{blockIn, openedAs}
+use Rattle.image.proofs.Fields.{part-next}
 use Rattle.walk.specs.Steps.{after, groupHead}
 use Rattle.walk.specs.Lists.{channelsFrom, groupAt}
 
 -- ---- the search for an ID
 
 module _ (x : ℕ) (ids : List ℕ) (n i : ℕ) (l : n ≤ length ids) where
-  rest : i < n → drop i (take n ids) ≡ getD ids i 0 ∷ drop (i + 1) (take n ids)
-  rest h =
-      let e : i < length (take n ids) = omega (arith, length-take-le n ids l) in
-      drop-cons (take n ids) i 0 e ∙ rw (getD-take n ids i 0 h, add-one i)
-
   module _ (s : elem x (take n ids) ≡ elem x (drop i (take n ids))) where
     pub elem-here : i < n → x ≡ getD ids i 0 → true ≡ elem x (take n ids)
-    elem-here h e = sym (s ∙ ap (elem x) (rest h) ∙ rw (eq-eqb x (getD ids i 0) e))
+    elem-here h e = sym (s ∙ ap (elem x) (part-next n i ids l h) ∙ rw (eq-eqb x (getD ids i 0) e))
 
     pub elem-next : i < n → (x ≡ getD ids i 0 → ⊥) → elem x (take n ids) ≡ elem x (drop (i + 1) (take n ids))
-    elem-next h d = s ∙ ap (elem x) (rest h) ∙ rw (ne-eqb x (getD ids i 0) d)
+    elem-next h d = s ∙ ap (elem x) (part-next n i ids l h) ∙ rw (ne-eqb x (getD ids i 0) d)
 
     pub elem-none : n ≤ i → false ≡ elem x (take n ids)
     elem-none h =

@@ -1,28 +1,21 @@
 -- The steps of a channel and of a channel group's head, as the code takes them.
 -- Assumes nothing.
-use Prim.Native.Nat.{ℕ, _+_, _≤_}
+use Prim.Native.Nat.{ℕ, _+_}
 use mathlib.Core.Bool.{Bool, not, _&&_, _||_}
-use mathlib.Core.List.{List}
 use lib.Dec.{leb, eqb}
 use Rattle.spec.specs.Bytes.{isNil}
 use Rattle.spec.specs.Answer.{Answer, refused, require}
 use Rattle.spec.specs.Block.{Image, Opened, CgBlock, CnBlock, CE, TX, bodyAt}
 use Rattle.spec.specs.Walk.{conversionAt, sizeAllowed}
-use Rattle.image.specs.declared.Span.{Span}
 use Rattle.image.specs.declared.Step.{Step}
 use Rattle.image.specs.declared.Step.the-variants.{Go, Stop}
-use Rattle.image.specs.Spans.{Inside, stepOf}
+use Rattle.image.specs.Spans.{stepOf}
 
 -- one step, then another: the first refusal of the two
 infixr 25 _then_
 unfoldable pub _then_ : Step → Step → Step
 Go then s = s
 Stop n p then s = Stop n p
-
--- a span that holds a CN block
-pub record HoldsCn (image : List ℕ) (cn : Span) : Type 0 where
-  pub inside : Inside image cn
-  pub least : 218 ≤ cn .size
 
 -- what a channel links to, up to its comment
 unfoldable pub bodiesFirst : Image → Opened CnBlock → Step
@@ -44,10 +37,6 @@ after Go m = m
 after (Stop n p) m = refused n p
 
 -- ---- a channel group
-
-pub record HoldsCg (image : List ℕ) (cg : Span) : Type 0 where
-  pub inside : Inside image cg
-  pub least : 26 ≤ cg .size
 
 -- in modes 1 and 2 an ID is at most 255 and new
 abbrev pub idPasses : ℕ → ℕ → Bool → Bool

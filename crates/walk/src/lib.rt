@@ -16,8 +16,8 @@ ghost use lib.ListN.{length, take, set};
 ghost use Rattle.spec.specs.Bytes.{u16, u32, toLink};
 ghost use Rattle.spec.specs.Block.{imageOf, readCg, readCn, readFields};
 ghost use Rattle.spec.specs.Walk.{bitsFit, fieldsPass, conversionAt, channelAt, elem};
-ghost use Rattle.image.specs.Spans.{blockIn, Inside, stepOf, openedAs};
-ghost use Rattle.walk.specs.Steps.{HoldsCn, bodiesFirst, bodiesLast, HoldsCg, idPasses, groupHead};
+ghost use Rattle.image.specs.Spans.{blockIn, Holds, stepOf, openedAs};
+ghost use Rattle.walk.specs.Steps.{bodiesFirst, bodiesLast, idPasses, groupHead};
 ghost use Rattle.walk.specs.Lists.{StandsAt, channelsFrom, channelsMet, OnlyChannels, groupAt, PastGroup, Table, groupsFrom, groupsMet, OnlyGroups};
 
 // ---- a channel
@@ -41,7 +41,7 @@ fn conversion(image: &[u8], at: usize, link: usize) -> Step
 
 // Whether the bits of a channel lie in a record of this size.
 fn bits_fit(image: &[u8], cn: Span, width: usize) -> bool
-    requires { ⌜ HoldsCn (now image) cn × (width < 65536) ⌝ }
+    requires { ⌜ Holds 218 (now image) cn × (width < 65536) ⌝ }
     ensures { λ r. ⌜ r ≡ bitsFit width (readFields (blockIn (now (image .entry)) cn)) ⌝ }
 {
     let bits = image::u16_in(image, cn, 188);
@@ -55,7 +55,7 @@ fn bits_fit(image: &[u8], cn: Span, width: usize) -> bool
 
 // Type, bits and data type of a channel.
 fn fields_pass(image: &[u8], cn: Span, width: usize) -> Step
-    requires { ⌜ HoldsCn (now image) cn × (width < 65536) ⌝ }
+    requires { ⌜ Holds 218 (now image) cn × (width < 65536) ⌝ }
     ensures { λ r. ⌜ r ≡ stepOf (fieldsPass width (cn .at) (readFields (blockIn (now (image .entry)) cn))) ⌝ }
 {
     let at = cn.at;
@@ -73,7 +73,7 @@ fn fields_pass(image: &[u8], cn: Span, width: usize) -> Step
 
 // What a channel links to before its fields are tested: conversion, extension, dependency, comment.
 fn channel_first(image: &[u8], cn: Span) -> Step
-    requires { ⌜ HoldsCn (now image) cn ⌝ }
+    requires { ⌜ Holds 218 (now image) cn ⌝ }
     ensures { λ r. ⌜ r ≡ bodiesFirst (imageOf (now (image .entry))) (openedAs readCn (now (image .entry)) cn) ⌝ }
 {
     let at = cn.at;
@@ -93,7 +93,7 @@ fn channel_first(image: &[u8], cn: Span) -> Step
 
 // And after that: long name, display name.
 fn channel_last(image: &[u8], cn: Span) -> Step
-    requires { ⌜ HoldsCn (now image) cn ⌝ }
+    requires { ⌜ Holds 218 (now image) cn ⌝ }
     ensures { λ r. ⌜ r ≡ bodiesLast (imageOf (now (image .entry))) (openedAs readCn (now (image .entry)) cn) ⌝ }
 {
     let at = cn.at;
@@ -106,7 +106,7 @@ fn channel_last(image: &[u8], cn: Span) -> Step
 
 // What hangs on an opened CN block, in a group of this record size.
 fn channel(image: &[u8], cn: Span, width: usize) -> Step
-    requires { ⌜ HoldsCn (now image) cn × (width < 65536) ⌝ }
+    requires { ⌜ Holds 218 (now image) cn × (width < 65536) ⌝ }
     ensures { λ r. ⌜ r ≡ stepOf (channelAt (imageOf (now (image .entry))) width (openedAs readCn (now (image .entry)) cn)) ⌝ }
 {
     let first = channel_first(image, cn);
@@ -232,21 +232,15 @@ fn channel_list(image: &[u8], width: usize, start: Cursor) -> Walked
 
 // ---- the channel groups of a data group
 
-fn wide(x: u16) -> usize
-    ensures { λ r. ⌜ (r ≡ x) × (r < 65536) ⌝ }
-{
-    x as usize
-}
-
 // Whether the ID of a group is among those of the n groups before it in this data group.
 fn known(image: &[u8], cg: Span, ids: &[u16], n: usize) -> bool
-    requires { ⌜ HoldsCg (now image) cg × (n ≤ length (now ids)) ⌝ }
+    requires { ⌜ Holds 26 (now image) cg × (n ≤ length (now ids)) ⌝ }
     ensures { λ r. ⌜ r ≡ elem (u16 16 (blockIn (now (image .entry)) cg)) (take n (now (ids .entry))) ⌝ }
 {
     let id = image::u16_in(image, cg, 16);
     let mut i: usize = 0;
     while i < n {
-        if id == wide(ids[i]) {
+        if id == image::wide16(ids[i]) {
             return true;
         }
         i += 1;
@@ -278,7 +272,7 @@ fn zero_implies(x: usize, y: usize) -> bool
 
 // The tests of a group before its channels.
 fn group_head(image: &[u8], cg: Span, mode: usize, known: bool) -> Step
-    requires { ⌜ HoldsCg (now image) cg ⌝ }
+    requires { ⌜ Holds 26 (now image) cg ⌝ }
     ensures { λ r. ⌜ r ≡ groupHead (imageOf (now (image .entry))) mode known (openedAs readCg (now (image .entry)) cg) ⌝ }
 {
     let at = cg.at;
@@ -300,7 +294,7 @@ fn group_head(image: &[u8], cg: Span, mode: usize, known: bool) -> Step
 
 // One group with its channels: past it, the cursor stands at its next link.
 fn group(image: &[u8], cg: Span, mode: usize, known: bool, c: Cursor) -> Walked
-    requires { ⌜ HoldsCg (now image) cg × (c .cgs < 1024) × (c .cns ≤ 16384) ⌝ }
+    requires { ⌜ Holds 26 (now image) cg × (c .cgs < 1024) × (c .cns ≤ 16384) ⌝ }
     ensures { λ r. ⌜ (channelsMet r ≡ groupAt (imageOf (now (image .entry))) mode known (c .cns) cg) × PastGroup (now (image .entry)) c cg r ⌝ }
 {
     let at = cg.at;
@@ -317,7 +311,7 @@ fn group(image: &[u8], cg: Span, mode: usize, known: bool, c: Cursor) -> Walked
 
 // The slot of a group, as the n-th of the table.
 fn note(image: &[u8], cg: Span, n: usize, ids: &mut [u16], sizes: &mut [u16], counts: &mut [u32])
-    requires { ⌜ HoldsCg (now image) cg × Table (now ids) (now sizes) (now counts) × (n < 1024) ⌝ }
+    requires { ⌜ Holds 26 (now image) cg × Table (now ids) (now sizes) (now counts) × (n < 1024) ⌝ }
     ensures { λ _. ⌜ (now (ids .exit) ≡ set (now (ids .entry)) n (u16 16 (blockIn (now (image .entry)) cg)))
         × (now (sizes .exit) ≡ set (now (sizes .entry)) n (u16 20 (blockIn (now (image .entry)) cg)))
         × (now (counts .exit) ≡ set (now (counts .entry)) n (u32 22 (blockIn (now (image .entry)) cg))) ⌝ }

@@ -21,20 +21,20 @@ u16-in-requires c κs = (omega arith, c .before .before .pre .0 .inside)
 loop-holds : tie.Need-loop-holds Inv-loop μ-loop
 loop-holds c = (omega arith, refl)
 
-mul-wide : tie.Need-mul-wide Inv-loop μ-loop
-mul-wide c = search needs
+mul-wide16 : tie.Need-mul-wide16 Inv-loop μ-loop
+mul-wide16 c = search needs
 
-shared-slice-read-wide : tie.Need-shared-slice-read-wide Inv-loop μ-loop
-shared-slice-read-wide c = search needs
+shared-slice-read-wide16 : tie.Need-shared-slice-read-wide16 Inv-loop μ-loop
+shared-slice-read-wide16 c = search needs
 
-wide-requires : tie.Need-wide-requires Inv-loop μ-loop
-wide-requires c κs = search needs
+wide16-requires : tie.Need-wide16-requires Inv-loop μ-loop
+wide16-requires c κs = search needs
 
 returns : tie.Need-returns Inv-loop μ-loop
 returns c =
     let l = c .before .before .before .before .loop in
     let a = c .before .before .before .before .before .before .before .before .args in
-    rw (c .before .before .before .before .before .u16-in .ensures .0) at (elem-here (c .before .before .before .before .before .u16-in .result) (now (a .ids)) (a .n) (l .i) (c .before .before .before .before .before .before .before .before .pre .1) (l .inv .1) (c .before .before .before .loop-test .taken) (c .if1 .taken ∙ c .before .wide .ensures .0))
+    rw (c .before .before .before .before .before .u16-in .ensures .0) at (elem-here (c .before .before .before .before .before .u16-in .result) (now (a .ids)) (a .n) (l .i) (c .before .before .before .before .before .before .before .before .pre .1) (l .inv .1) (c .before .before .before .loop-test .taken) (c .if1 .taken ∙ c .before .wide16 .ensures .0))
 
 add-i : tie.Need-add-i Inv-loop μ-loop
 add-i c = search needs
@@ -46,7 +46,7 @@ loop-again : tie.Need-loop-again Inv-loop μ-loop
 loop-again c =
     let l = c .before .before .before .before .loop in
     let a = c .before .before .before .before .before .before .before .before .args in
-    (omega arith, elem-next (c .before .before .before .before .before .u16-in .result) (now (a .ids)) (a .n) (l .i) (c .before .before .before .before .before .before .before .before .pre .1) (l .inv .1) (c .before .before .before .loop-test .taken) (λ e. c .if1 .left (e ∙ sym (c .before .wide .ensures .0))))
+    (omega arith, elem-next (c .before .before .before .before .before .u16-in .result) (now (a .ids)) (a .n) (l .i) (c .before .before .before .before .before .before .before .before .pre .1) (l .inv .1) (c .before .before .before .loop-test .taken) (λ e. c .if1 .left (e ∙ sym (c .before .wide16 .ensures .0))))
 
 returns-2 : tie.Need-returns-2 Inv-loop μ-loop
 returns-2 c =
@@ -62,9 +62,9 @@ known-spec =
     μ-loop
     u16-in-requires
     loop-holds
-    mul-wide
-    shared-slice-read-wide
-    wide-requires
+    mul-wide16
+    shared-slice-read-wide16
+    wide16-requires
     returns
     add-i
     loop-less
