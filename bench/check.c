@@ -93,48 +93,48 @@ static void plain_read(const uint8_t *image, size_t length)
     kept = sum;
 }
 
-/* The best of several runs of so many rounds, in nanoseconds for one round. */
-static double best(int what, const uint8_t *image, size_t length, uint8_t *to, int rounds)
+/* One round of what is measured. */
+static void once(int what, const uint8_t *image, size_t length, uint8_t *to)
 {
-    double least = 1e30;
-    for (int run = 0; run < 7; run++) {
-        double start = now();
-        for (int i = 0; i < rounds; i++) {
-            uint8_t answer[MDF3_ANSWER_SIZE];
-            uint64_t place;
-            if (what == 0) {
-                if (mdf3_check(image, length, answer) != 0)
-                    exit(1);
-            } else if (what == 1) {
-                if (plain_check(image, length, &place) != 0)
-                    exit(1);
-            } else if (what == 2) {
-                plain_read(image, length);
-            } else {
-                memcpy(to, image, length);
-                kept = to[length / 2];
-            }
-        }
-        double took = (now() - start) * 1e9 / rounds;
-        if (took < least)
-            least = took;
+    uint8_t answer[MDF3_ANSWER_SIZE];
+    uint64_t place;
+    if (what == 0) {
+        if (mdf3_check(image, length, answer) != 0)
+            exit(1);
+    } else if (what == 1) {
+        if (plain_check(image, length, &place) != 0)
+            exit(1);
+    } else if (what == 2) {
+        plain_read(image, length);
+    } else {
+        memcpy(to, image, length);
+        kept = to[length / 2];
     }
-    return least;
 }
 
+/* The best of many turns, in nanoseconds for one round. The four take turns, so that a slow spell of the machine
+ * meets all of them. */
 static void measure(const char *name, size_t room, unsigned mode, int rounds)
 {
+    double least[4] = {1e30, 1e30, 1e30, 1e30};
     uint8_t *image = malloc(room), *to = malloc(room);
     if (image == NULL || to == NULL)
         exit(2);
     size_t length = make(image, room, mode);
     memset(to, 1, room);
-    double check = best(0, image, length, to, rounds);
-    double plain = best(1, image, length, to, rounds);
-    double read = best(2, image, length, to, rounds);
-    double copy = best(3, image, length, to, rounds);
+    for (int turn = 0; turn < 25; turn++) {
+        for (int what = 0; what < 4; what++) {
+            double start = now();
+            for (int i = 0; i < rounds; i++)
+                once(what, image, length, to);
+            double took = (now() - start) * 1e9 / rounds;
+            if (took < least[what])
+                least[what] = took;
+        }
+    }
     printf("%-26s %8zu bytes %9.0f ns, by plain C %9.0f, read %9.0f, memcpy %9.0f: ratios %5.2f %5.2f %5.2f\n",
-           name, length, check, plain, read, copy, check / plain, check / read, check / copy);
+           name, length, least[0], least[1], least[2], least[3],
+           least[0] / least[1], least[0] / least[2], least[0] / least[3]);
     free(image);
     free(to);
 }
