@@ -123,10 +123,10 @@ module _ (image : Image) (bytes : Bytes (image .bytes)) where
 
 -- ---- channel groups: their IDs differ, and mode 0 has one at most
 
-record GroupsApart (mode : ℕ) (used : List ℕ) (gs : List FoundGroup) : Type 0 where
-  fresh : All (λ (s : Slot). elem (s .recordID) used ≡ false) (map slotOf gs)
-  distinct : Distinct (map slotOf gs)
-  single : mode ≡ 0 → length (map slotOf gs) ≤ 1 - length used
+pub record GroupsApart (mode : ℕ) (used : List ℕ) (gs : List FoundGroup) : Type 0 where
+  pub fresh : All (λ (s : Slot). elem (s .recordID) used ≡ false) (map slotOf gs)
+  pub distinct : Distinct (map slotOf gs)
+  pub single : mode ≡ 0 → length (map slotOf gs) ≤ 1 - length used
 
 no-groups : (mode : ℕ) (used : List ℕ) → GroupsApart mode used []
 no-groups mode used = record { fresh = tt; distinct = tt; single = λ _. omega arith }
@@ -165,7 +165,7 @@ apart x us (s ∷ ss) f =
     neither true u e = absurd (true≢false e)
     neither false u e = (refl, e)
 
-groups-apart : (image : Image) (left channelsLeft mode : ℕ) (used : List ℕ) (linkField : ℕ) (l : Option ℕ) → Gives (groupList image left channelsLeft mode used linkField l) (GroupsApart mode used)
+pub groups-apart : (image : Image) (left channelsLeft mode : ℕ) (used : List ℕ) (linkField : ℕ) (l : Option ℕ) → Gives (groupList image left channelsLeft mode used linkField l) (GroupsApart mode used)
 unfolding groupList
 groups-apart image zero cl mode used linkField none = gives _ (no-groups mode used)
 groups-apart image zero cl mode used linkField (some p) = gives-none _ _

@@ -1,0 +1,11 @@
+pub mod Lists
+pub mod Bodies
+pub mod Channels
+pub mod Groups
+pub mod DataGroups
+pub mod Files
+pub mod GroupCursors
+pub mod ChannelCursors
+pub mod Logs
+pub mod RecordCursors
+pub mod SizeTables
