@@ -60,6 +60,11 @@ pub record Wrote (d d₁ : List ℕ) (at : ℕ) (bs : List ℕ) : Type 0 where
 pub wrote-none : {d : List ℕ} {at : ℕ} → Wrote d d at []
 wrote-none {d} {at} = record { is = sym (write-nil d at) }
 
+-- one store
+pub wrote-one : {d : List ℕ} {at x : ℕ} → Wrote d (set d at x) at (x ∷ [])
+unfolding write
+wrote-one = record { is = refl }
+
 -- two runs one after the other
 pub then : {d d₁ d₂ : List ℕ} {at p : ℕ} {a b : List ℕ} → Wrote d d₁ at a → Wrote d₁ d₂ p b → p ≡ at + length a → Wrote d d₂ at (a ++ b)
 then {d} {d₁} {d₂} {at} {p} {a} {b} e f q = record { is = f .is ∙ rw (e .is) (write-write d at a b p q) }
