@@ -1,11 +1,11 @@
 -- Lists from an index on, and answers that are known.
 -- Assumes nothing.
-use Prim.Native.Nat.{ℕ, zero, suc, _+_}
+use Prim.Native.Nat.{ℕ, zero, suc, _+_, _<_}
 use mathlib.Core.Path.{_≡_, refl}
 use mathlib.Core.List.{List, [], _∷_, map}
 use native.Mathlib.Omega.{arith}
 use native.Mathlib.Numerals.{add-one}
-use lib.ListN.{drop}
+use lib.ListN.{length, drop}
 use Rattle.spec.specs.Bytes.{All}
 use Rattle.spec.specs.Answer.{Answer, refused, accepted, _>>=_}
 use Rattle.spec.proofs.Answers.{Gives}
@@ -20,6 +20,12 @@ drop-suc (suc k) (y ∷ xs) e = drop-suc k xs e
 
 pub drop-next : {A : Type 0} (k : ℕ) (xs : List A) {x : A} {ys : List A} → drop k xs ≡ x ∷ ys → drop (k + 1) xs ≡ ys
 drop-next k xs e = rw (add-one k) (drop-suc k xs e)
+
+pub index-below : {A : Type 0} (k : ℕ) (xs : List A) {x : A} {ys : List A} → drop k xs ≡ x ∷ ys → k < length xs
+index-below zero [] e = let z : _≡_ {A = ℕ} 0 1 = cc in absurd (omega arith)
+index-below zero (y ∷ xs) e = omega arith
+index-below (suc k) [] e = let z : _≡_ {A = ℕ} 0 1 = cc in absurd (omega arith)
+index-below (suc k) (y ∷ xs) e = let h = index-below k xs e in omega arith
 
 pub drop-map : {A B : Type 0} (f : A → B) (k : ℕ) (xs : List A) → drop k (map f xs) ≡ map f (drop k xs)
 drop-map f zero xs = refl
