@@ -1,3 +1,4 @@
 pub mod Bodies
 pub mod Later
 pub mod Numbers
+pub mod Promise

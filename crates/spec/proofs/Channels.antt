@@ -101,7 +101,7 @@ pub length-placed : (p : ℕ) (cs : List Channel) → length (placedChannels p c
 length-placed p [] = refl
 length-placed p (c ∷ cs) = ap suc (length-placed (p + channelLength c) cs)
 
-length-channel : (size p : ℕ) (next : Option ℕ) (c : Channel) → WellFormedChannel size c → length (channelBytes p next c) ≡ channelLength c
+pub length-channel : (size p : ℕ) (next : Option ℕ) (c : Channel) → WellFormedChannel size c → length (channelBytes p next c) ≡ channelLength c
 unfolding channelBytes channelLength
 length-channel size p next c ok =
     simp (length-append, length-body, length-cn (cnOf p next c) (ok .fields .main) (ok .fields .added)) (omega arith)

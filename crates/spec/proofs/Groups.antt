@@ -156,7 +156,7 @@ pub read-groups : (p : ℕ) (gs : List Group) → map readGroup (groupsIn (place
 read-groups p [] = refl
 read-groups p (g ∷ gs) = ap₂ _∷_ (read-group p (linkToFirst (p + groupLength g) gs) g) (read-groups (p + groupLength g) gs)
 
-length-group : (p : ℕ) (next : Option ℕ) (g : Group) → WellFormedGroup g → length (groupBytes p next g) ≡ groupLength g
+pub length-group : (p : ℕ) (next : Option ℕ) (g : Group) → WellFormedGroup g → length (groupBytes p next g) ≡ groupLength g
 unfolding groupBytes
 length-group p next g ok =
     simp (length-append, length-dg, length-cg, length-body, length-records, length-channels (g .recordSize) (channelsPlace p g) (g .channels) (ok .channels)) (omega arith)
