@@ -1,0 +1,140 @@
+// The groups of a file: the length of their blocks and records, and both written.
+use put_channels::Sum;
+use reading::Body;
+use reading::Group;
+use reading::GroupStep;
+use reading::Groups;
+ghost use mathlib.Core.Path.{_≡_};
+ghost use Prim.Native.Nat.{ℕ, _+_, _≤_, _<_};
+ghost use lib.ListN.{length};
+ghost use Rattle.write.specs.Write.{Wrote};
+ghost use Rattle.answers.specs.Readings.{target};
+ghost use Rattle.answers.specs.Copies.{linkToFirst, groupLength, groupsLength, groupsBytes};
+ghost use Rattle.reading.specs.Steps.{AtGroups, AtGroup, groupsLeft, theGroup};
+ghost use Rattle.put_channels.specs.Channels.{Capped, SumIs};
+ghost use Rattle.put_groups.specs.Groups.{linkIf, headsAs, groupAs, Known};
+
+// ---- a group
+
+// The length of a group. One above the longest copy is not told exactly.
+fn group_length(image: &[u8], g: Group) -> usize
+    requires { ⌜ AtGroup (now image) g ⌝ }
+    ensures { λ r. ⌜ Capped r (groupLength (theGroup (now (image .entry)) g)) × (58 ≤ r) × (r ≤ 2147483648) ⌝ }
+{
+    let sum = put_channels::channels_sum(image, g.channels(image));
+    let comment = put_channels::body_length(g.comment(image));
+    let n = 58 + comment + sum.length + g.count(image) * g.size(image);
+    if 2147483647 < n {
+        return 2147483648;
+    }
+    n
+}
+
+// A link to n parts at a place.
+pub fn link_if(n: usize, at: usize) -> usize
+    ensures { λ r. ⌜ r ≡ linkIf n at ⌝ }
+{
+    if n == 0 {
+        return 0;
+    }
+    at
+}
+
+// The DG block of a group and its CG block.
+fn put_heads(
+    out: &mut [u8],
+    at: usize,
+    image: &[u8],
+    g: Group,
+    comment: Body,
+    sum: Sum,
+    next: usize,
+)
+    requires { ⌜ Known (now image) g comment sum × (at + groupLength (theGroup (now image) g) ≤ length (now out)) ⌝ }
+    ensures { λ _. ⌜ Wrote (now (out .entry)) (now (out .exit)) at (headsAs at next (theGroup (now (image .entry)) g)) ⌝ }
+{
+    let tx = at + 58;
+    let cn = tx + put_channels::body_length(comment);
+    let count = g.count(image);
+    blocks::put_dg(out, at, next, at + 28, link_if(count, cn + sum.length));
+    let channels = sum.count;
+    let first = link_if(channels, cn);
+    let text = put_channels::body_link(comment, tx);
+    blocks::put_cg(out, at + 28, first, text, channels, g.size(image), count);
+}
+
+// A group with all that it holds, and the link to the next one.
+fn put_group(out: &mut [u8], at: usize, image: &[u8], g: Group, next: usize)
+    requires { ⌜ AtGroup (now image) g × (groupLength (theGroup (now image) g) ≤ 2147483647) × (at + groupLength (theGroup (now image) g) ≤ length (now out)) ⌝ }
+    ensures { λ _. ⌜ Wrote (now (out .entry)) (now (out .exit)) at (groupAs at next (theGroup (now (image .entry)) g)) ⌝ }
+{
+    let comment = g.comment(image);
+    let sum = put_channels::channels_sum(image, g.channels(image));
+    put_heads(out, at, image, g, comment, sum, next);
+    let tx = at + 58;
+    put_channels::put_body(out, tx, image, comment, 84, 88);
+    let cn = tx + put_channels::body_length(comment);
+    put_channels::put_channels(out, cn, image, g.channels(image));
+    put_records::put_records(out, cn + sum.length, image, g);
+}
+
+// ---- the groups
+
+// A length before the groups that are left, with theirs, and how many they are.
+pub fn groups_sum(image: &[u8], groups: Groups, start: usize) -> Sum
+    requires { ⌜ AtGroups (now image) groups × (start ≤ 2147483647) ⌝ }
+    ensures { λ r. ⌜ SumIs r (start + groupsLength (groupsLeft (now (image .entry)) groups)) (length (groupsLeft (now (image .entry)) groups)) ⌝ }
+{
+    let mut c = groups;
+    let mut sum = start;
+    let mut count: usize = 0;
+    loop {
+        match c.next(image) {
+            GroupStep::Done => {
+                return Sum { length: sum, count };
+            }
+            GroupStep::Next(g, n) => {
+                sum += group_length(image, g);
+                if 2147483647 < sum {
+                    return Sum { length: sum, count };
+                }
+                count += 1;
+                c = n;
+            }
+        }
+    }
+}
+
+// The link to the groups that are left, where they stand at a place of the copy.
+fn groups_link(image: &[u8], groups: Groups, at: usize) -> usize
+    requires { ⌜ AtGroups (now image) groups ⌝ }
+    ensures { λ r. ⌜ r ≡ target (linkToFirst at (groupsLeft (now (image .entry)) groups)) ⌝ }
+{
+    match groups.next(image) {
+        GroupStep::Done => 0,
+        GroupStep::Next(_g, _n) => at,
+    }
+}
+
+// The groups that are left, from a place on.
+pub fn put_groups(out: &mut [u8], at: usize, image: &[u8], groups: Groups)
+    requires { ⌜ AtGroups (now image) groups × (groupsLength (groupsLeft (now image) groups) ≤ 2147483647) × (at + groupsLength (groupsLeft (now image) groups) ≤ length (now out)) ⌝ }
+    ensures { λ _. ⌜ Wrote (now (out .entry)) (now (out .exit)) at (groupsBytes at (groupsLeft (now (image .entry)) groups)) ⌝ }
+{
+    let mut c = groups;
+    let mut to = at;
+    loop {
+        match c.next(image) {
+            GroupStep::Done => {
+                return;
+            }
+            GroupStep::Next(g, n) => {
+                let end = to + group_length(image, g);
+                let next = groups_link(image, n, end);
+                put_group(out, to, image, g, next);
+                to = end;
+                c = n;
+            }
+        }
+    }
+}
