@@ -1,0 +1,94 @@
+-- The front of a copy, and the whole of it.
+-- Assumes nothing.
+use Prim.Native.Nat.{ℕ, _+_, _-_, _≤_, _<_}
+use mathlib.Core.Path.{_≡_, refl, sym, _∙_, ap, ap₂}
+use mathlib.Core.List.{List, [], _∷_, _++_, append-assoc, append-nil}
+use native.Mathlib.Omega.{arith}
+use lib.ListN.{length, take, drop, length-append}
+use Rattle.answers.specs.Readings.{Bytes, target, TX, PR, Reading, version, HD-written, WellFormed}
+use Rattle.answers.specs.Copies.{bodyLength, bodyBytes, linkTo, linkToFirst, groupsBytes, groupsLength, copyLength, canonicalCopy, hdOf, writeHd}
+use Rattle.answers.proofs.Laws.{length-body, length-hd}
+use Rattle.blocks.specs.Blocks.{hdBytes}
+use Rattle.blocks.proofs.Written.{hd-written}
+use Rattle.write.specs.Write.{Wrote, then, wrote-as, padded}
+use lib.Seq.{length-take-le}
+use borrow.Author.Tests.{lt-ltb, le-ltb}
+use Rattle.reading.specs.declared.File.{File}
+use Rattle.reading.specs.Promise.{imageReading}
+use Rattle.reading.specs.Steps.{AtFile, BodyIs, PlainIs, LaterIs}
+use Rattle.reading.proofs.Promise.{file-long, file-ident}
+use Rattle.put_channels.specs.Spans.{spanBytes, spanLink}
+use Rattle.put_channels.proofs.Spans.{span-length, span-link, span-bytes}
+use Rattle.put_groups.specs.Groups.{linkIf}
+use Rattle.put_groups.proofs.Groups.{link-if}
+use Rattle.copy.specs.declared.Front.{Front}
+use Rattle.copy.specs.Copying.{FrontIs, frontAs}
+
+-- ---- HD
+
+module _ (image : List ℕ) (t : Front) (s : FrontIs image t (imageReading image)) where
+  abbrev r : Reading
+  r = imageReading image
+
+  pub header-as : (f : File) (first tx pr count from held : ℕ)
+      → first ≡ linkIf count (t .first)
+      → tx ≡ spanLink (t .tx) (t .comment)
+      → pr ≡ spanLink (t .pr) (t .program)
+      → count ≡ length (imageReading image .groups)
+      → PlainIs image f from
+      → LaterIs image (f .hd .at + 164) held
+      → hdBytes (t .size) first tx pr count (take 146 (drop from image)) (padded image (from + 146) held (t .size - 164)) ≡ writeHd (version (imageReading image)) (length (imageReading image .groups)) (hdOf (imageReading image))
+  unfolding padded
+  header-as f first tx pr count from held e₁ e₂ e₃ e₄ p l =
+      let f₂ = e₂ ∙ span-link image (t .tx) (t .comment) (s .comment) in
+      let f₃ = e₃ ∙ span-link image (t .pr) (t .program) (s .program) in
+      rw (e₁, f₂, f₃, e₄, s .tx, s .pr, s .first, s .size, p .place, sym (p .is), sym (l .is), link-if)
+      (sym (hd-written (version r) (length (r .groups)) (hdOf r)))
+
+-- ---- writing
+
+pub front-written : (image : List ℕ) (f : File) → AtFile image f → {o₀ o₁ o₂ : List ℕ} {h : List ℕ}
+    → h ≡ writeHd (version (imageReading image)) (length (imageReading image .groups)) (hdOf (imageReading image))
+    → Wrote o₀ o₁ 0 (take 64 (drop 0 image)) → Wrote o₁ o₂ 64 h → Wrote o₀ o₂ 0 (frontAs (imageReading image))
+unfolding frontAs
+front-written image f s e w₁ w₂ =
+    let i = file-ident image (f .hd) s in
+    then (wrote-as w₁ refl (sym i)) (wrote-as w₂ refl e) (omega (arith, ap length i, length-take-le 64 image (file-long image (f .hd) s)))
+
+pub file-written : (image : List ℕ) (t : Front) → FrontIs image t (imageReading image) → WellFormed (imageReading image) → {o₀ o₁ o₂ o₃ o₄ : List ℕ}
+    → Wrote o₀ o₁ 0 (frontAs (imageReading image))
+    → Wrote o₁ o₂ (t .tx) (spanBytes 84 88 image (t .comment))
+    → Wrote o₂ o₃ (t .pr) (spanBytes 80 82 image (t .program))
+    → Wrote o₃ o₄ (t .first) (groupsBytes (t .first) (imageReading image .groups))
+    → Wrote o₀ o₄ 0 (canonicalCopy (imageReading image))
+unfolding frontAs canonicalCopy
+file-written image t s ok w₁ w₂ w₃ w₄ =
+    let r = imageReading image in
+    let l₁ = ok .ident .size in
+    let l₂ = length-hd (version r) (length (r .groups)) (hdOf r) (ok .plain) (ok .later) in
+    let l₃ = length-body TX (r .comment) in
+    let l₄ = length-body PR (r .program) in
+    wrote-as
+    (then
+    (then
+    (then w₁ (wrote-as w₂ refl (span-bytes TX image (t .comment) (s .comment))) (rw length-append (omega (arith, s .tx, l₁, l₂))))
+    (wrote-as w₃ refl (span-bytes PR image (t .program) (s .program))) (rw (length-append, length-append) (omega (arith, s .pr, l₁, l₂, l₃))))
+    (wrote-as w₄ refl (ap (λ p. groupsBytes p (r .groups)) (s .first))) (rw (length-append, length-append, length-append) (omega (arith, s .first, l₁, l₂, l₃, l₄))))
+    refl
+    (flat (r .ident) (writeHd (version r) (length (r .groups)) (hdOf r)) (bodyBytes TX (r .comment)) (bodyBytes PR (r .program)) (groupsBytes (64 + HD-written (version r) + bodyLength (r .comment) + bodyLength (r .program)) (r .groups)))
+  where
+    flat : (v w x y z : List ℕ) → (((v ++ w) ++ x) ++ y) ++ z ≡ v ++ (w ++ (x ++ (y ++ (z ++ []))))
+    flat v w x y z = rw (append-nil z, append-assoc, append-assoc, append-assoc)
+
+-- the length of the copy by the place of its groups
+pub length-by : (r : Reading) (first : ℕ) → first ≡ 64 + HD-written (version r) + bodyLength (r .comment) + bodyLength (r .program) → first + groupsLength (r .groups) ≡ copyLength r
+unfolding copyLength
+length-by r first e = ap (λ n. n + groupsLength (r .groups)) e
+
+-- ---- the size of HD
+
+pub early-size : (v w : ℕ) → v ≡ w → v < 320 → 164 ≡ HD-written w
+early-size v w e h = rw (← e, lt-ltb v 320 h)
+
+pub late-size : (v w : ℕ) → v ≡ w → 320 ≤ v → 208 ≡ HD-written w
+late-size v w e h = rw (← e, le-ltb v 320 h)
