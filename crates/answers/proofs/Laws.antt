@@ -7,3 +7,4 @@ pub use Rattle.spec.proofs.Channels.{length-channel, length-channels}
 pub use Rattle.spec.proofs.Groups.{length-records, length-group, length-groups}
 pub use Rattle.spec.proofs.Accepted.{accepted-well-formed}
 pub use Rattle.spec.proofs.RoundTrip.{length-canonical}
+pub use Rattle.spec.proofs.Facts.{program-writes-the-copy, program-writes-the-refusal}
