@@ -2,8 +2,9 @@
 -- docs/DECISIONS.md, the answer for C. Assumes nothing.
 use Prim.Native.Nat.{ℕ}
 use mathlib.Core.List.{List, _++_}
-use Rattle.spec.specs.Bytes.{bytesOf}
-use Rattle.spec.specs.Call.{checkOutcome}
+use mathlib.Core.Option.{Option, none, some}
+use Rattle.answers.specs.Readings.{bytesOf}
+use Rattle.answers.specs.Outcomes.{Outcome, checkOutcome, CopyOutcome, copyOutcome}
 
 -- place, value, length, kind; what does not apply is 0
 abbrev pub answerBytes : ℕ → ℕ → ℕ → ℕ → List ℕ
@@ -15,3 +16,17 @@ checkNumber image = checkOutcome image .number
 
 unfoldable pub checkAnswer : List ℕ → List ℕ
 checkAnswer image = answerBytes (checkOutcome image .place) 0 0 0
+
+-- copy gives a place, or the length of the copy as its value
+abbrev pub orZero : Option ℕ → ℕ
+orZero none = 0
+orZero (some n) = n
+
+abbrev pub lengthAnswer : Outcome ℕ → List ℕ
+lengthAnswer o = answerBytes (o .place) (orZero (o .value)) 0 0
+
+unfoldable pub copyNumber : List ℕ → List ℕ → ℕ
+copyNumber image out = copyOutcome image out .given .number
+
+unfoldable pub copyAnswer : List ℕ → List ℕ → List ℕ
+copyAnswer image out = lengthAnswer (copyOutcome image out .given)

@@ -1,9 +1,11 @@
 // The calls for C programs: include/mdf3.h declares them.
-use file::Verdict;
+use copy::Copied;
+use reading::Access;
 ghost use mathlib.Core.Path.{_≡_};
 ghost use Prim.Native.Nat.{ℕ};
-ghost use Rattle.spec.specs.Bytes.{bytesOf};
-ghost use Rattle.mdf3.specs.Answers.{answerBytes, checkNumber, checkAnswer};
+ghost use Rattle.answers.specs.Readings.{bytesOf};
+ghost use Rattle.answers.specs.Outcomes.{copyOutcome};
+ghost use Rattle.mdf3.specs.Answers.{answerBytes, checkNumber, checkAnswer, copyNumber, copyAnswer};
 
 // A number as 8 bytes, little endian.
 fn word(x: u64) -> [u8; 8]
@@ -77,12 +79,31 @@ fn answer_bytes(place: u64, value: u64, size: u64, kind: u64) -> [u8; 32]
 pub extern "C" fn mdf3_check(image: &[u8], answer: &mut [u8; 32]) -> u32
     ensures { λ r. ⌜ (r ≡ checkNumber (now (image .entry))) × (now (answer .exit) ≡ checkAnswer (now (image .entry))) ⌝ }
 {
-    match file::check(image) {
-        Verdict::Passed => {
+    match reading::open(image) {
+        Access::Granted(_f) => {
             *answer = answer_bytes(0, 0, 0, 0);
             0
         }
-        Verdict::Rejected(number, place) => {
+        Access::Refused(number, place) => {
+            *answer = answer_bytes(place as u64, 0, 0, 0);
+            number
+        }
+    }
+}
+
+// The canonical copy of an image in the output: the number is returned, the answer holds place and length.
+#[no_mangle]
+pub extern "C" fn mdf3_copy(image: &[u8], out: &mut [u8], answer: &mut [u8; 32]) -> u32
+    ensures { λ r. ⌜ (r ≡ copyNumber (now (image .entry)) (now (out .entry)))
+        × (now (answer .exit) ≡ copyAnswer (now (image .entry)) (now (out .entry)))
+        × (now (out .exit) ≡ copyOutcome (now (image .entry)) (now (out .entry)) .memory) ⌝ }
+{
+    match copy::copy(image, out) {
+        Copied::Done(length) => {
+            *answer = answer_bytes(0, length as u64, 0, 0);
+            0
+        }
+        Copied::Refused(number, place) => {
             *answer = answer_bytes(place as u64, 0, 0, 0);
             number
         }

@@ -1,4 +1,4 @@
-use mathlib.Core.Path.{_≡_, refl, sym, _∙_, ap}
+use mathlib.Core.Path.{refl}
 use borrow.Author.Needs.{needs}
 use Rattle.mdf3.proofs.answer_bytes.Statement.{statement}
 use Rattle.mdf3.proofs.answer_bytes.Tie as tie
