@@ -1,31 +1,51 @@
-//! Images at the greatest length, and the empty image.
+//! Images and copies at the greatest length, and empty parts of memory.
 
-use crate::{compare, library, report, shown, Answer, Difference, Options, Tally};
+use crate::compare::{self, compare, shown, Answer, Difference, Wanted};
+use crate::output::Output;
+use crate::tally::Tally;
+use crate::{library, report, Options};
+use second::canonical;
+use second::make::long::with_copy_of;
 use second::make::sheet::Sheet;
 use std::ptr::NonNull;
 
 const LONGEST: usize = 2_147_483_647;
 
+pub fn run(options: &Options) -> Option<Tally> {
+    let mut tally = Tally::default();
+    let right = long_images(options, &mut tally);
+    let told = |name: &str, compared: Result<(), Difference>| match compared {
+        Ok(()) => true,
+        Err(difference) => {
+            report(options, name, None, &difference);
+            false
+        }
+    };
+    let right = told("empty memory", empty_memory(&mut tally)) && right;
+    let right = told("long output", long_output(&mut tally)) && right;
+    right.then_some(tally)
+}
+
 /// The long image: zeros that take no memory until they are written.
 struct Long<'a> {
     bytes: Vec<u8>,
     options: &'a Options,
-    tally: Tally,
+    output: Output,
+    tally: &'a mut Tally,
     right: bool,
 }
 
 impl Long<'_> {
-    /// Puts a small file at the start and checks the first `length` bytes.
+    /// Puts a small file at the start and tries the first `length` bytes.
     fn try_at(&mut self, name: &str, file: &[u8], length: usize, expected: Answer) {
         self.bytes[..file.len()].copy_from_slice(file);
         let name = format!("{name}, {length} bytes");
-        match compare(&self.bytes[..length], Some(expected)) {
-            Ok(answer) => self.tally.note(answer),
-            Err(difference) => {
-                // Only the written start is kept; the rest is zeros.
-                report(self.options, &name, Some(&self.bytes[..4096]), &difference);
-                self.right = false;
-            }
+        let wanted = Wanted { check: Some(expected), ..Wanted::default() };
+        let image = &self.bytes[..length];
+        if let Err(difference) = compare(image, &wanted, &mut self.output, self.tally) {
+            // Only the written start is kept; the rest is zeros.
+            report(self.options, &name, Some(&image[..file.len()]), &difference);
+            self.right = false;
         }
         self.bytes[..file.len()].fill(0);
     }
@@ -40,15 +60,6 @@ fn small_file() -> (Sheet, usize, usize) {
     sheet.put32(cg + 22, 1);
     sheet.put32(dg + 16, 1);
     (sheet, dg + 16, cg + 22)
-}
-
-pub fn run(options: &Options) -> Option<Tally> {
-    let bytes = vec![0; LONGEST + 1];
-    let mut long = Long { bytes, options, tally: Tally::default(), right: true };
-    lengths(&mut long);
-    last_bytes(&mut long);
-    let right = empty_image(&mut long) && long.right;
-    right.then_some(long.tally)
 }
 
 /// One byte more than is allowed, whatever the image holds.
@@ -92,15 +103,97 @@ fn last_bytes(long: &mut Long<'_>) {
     long.bytes[LONGEST - 4..LONGEST].fill(0);
 }
 
-/// No bytes at all, at an address that must not be read.
-fn empty_image(long: &mut Long<'_>) -> bool {
+/// 1,024 data groups that each take the whole long image for their records:
+/// a copy of more than 2 million million bytes.
+fn longest_copy(long: &mut Long<'_>) {
+    let mut sheet = Sheet::new(300, 164);
+    let cg = sheet.block(b"CG", 30);
+    sheet.put16(cg + 20, 65_535);
+    sheet.put32(cg + 22, 32_767);
+    let mut field = 68;
+    for _ in 0..1024 {
+        let dg = sheet.linked(field, b"DG", 28);
+        sheet.put32(dg + 8, cg as u32);
+        sheet.put32(dg + 16, 1);
+        field = dg + 4;
+    }
+    long.try_at("longest copy", &sheet.bytes, LONGEST, (0, 0));
+}
+
+fn long_images(options: &Options, tally: &mut Tally) -> bool {
+    let bytes = vec![0; LONGEST + 1];
+    let mut long = Long { bytes, options, output: Output::default(), tally, right: true };
+    lengths(&mut long);
+    last_bytes(&mut long);
+    longest_copy(&mut long);
+    long.right
+}
+
+/// Image and output without a byte, at an address that must not be used.
+fn empty_memory(tally: &mut Tally) -> Result<(), Difference> {
     let nowhere = NonNull::<u8>::dangling().as_ptr();
     let library = library::check(nowhere, 0);
-    if library == Ok((2, 0)) {
-        long.tally.note((2, 0));
-        return true;
+    if library != Ok((2, 0)) {
+        return Err(Difference::new("library", shown(&library)));
     }
-    let difference = Difference(vec![("library", shown(&library))]);
-    report(long.options, "empty image", None, &difference);
-    false
+    tally.note_check(2);
+    let smallest = Sheet::new(300, 164).bytes;
+    for (image, length, number, place) in
+        [(nowhere.cast_const(), 0, 2, 0), (smallest.as_ptr(), smallest.len(), 13, 228)]
+    {
+        let library = library::copy(image, length, nowhere, 0);
+        if library != Ok(canonical::Answer { number, place, value: 0 }) {
+            return Err(Difference::new("library's copy", format!("{library:?}")));
+        }
+        tally.note_copy(number);
+    }
+    Ok(())
+}
+
+/// An output longer than any copy, and the longest copy that can be made.
+fn long_output(tally: &mut Tally) -> Result<(), Difference> {
+    let mut output = Output::default();
+    output.prepare(LONGEST + 1, 0x5A);
+    let longest = with_copy_of(LONGEST as u64).bytes;
+    let longer = with_copy_of(LONGEST as u64 + 1).bytes;
+    for (image, room) in [(&longer, LONGEST + 1), (&longer, LONGEST), (&longest, LONGEST - 1)] {
+        output.shorten(room);
+        let length = compare::length_of(&compare::find(image));
+        compare::compare_answer(image, length, &mut output, tally)?;
+        if !output.untouched_beyond(0) {
+            return Err(Difference::new("refused copy", format!("room {room}: touched")));
+        }
+    }
+    for image in [Sheet::new(320, 164).bytes, longest] {
+        output.shorten(LONGEST);
+        whole_copy(&image, &mut output, tally)?;
+    }
+    Ok(())
+}
+
+/// A copy compared piece by piece, and what it is good for.
+fn whole_copy(image: &[u8], output: &mut Output, tally: &mut Tally) -> Result<(), Difference> {
+    let found = compare::find(image);
+    let answer = compare::compare_answer(image, compare::length_of(&found), output, tally)?;
+    let Ok(found) = found else {
+        return Err(Difference::new("long copy", "refused"));
+    };
+    let copy = output.start(answer.value as usize);
+    let (mut end, mut equal) = (0, true);
+    canonical::pieces(&found.reading, |piece| {
+        equal &= copy[end..].starts_with(piece);
+        end += piece.len();
+    });
+    if !equal || end != copy.len() || !output.untouched_beyond(end) {
+        return Err(Difference::new("long copy", format!("of {end} bytes is another")));
+    }
+    match compare::find(copy) {
+        Ok(again) if again.reading == found.reading => {}
+        _ => return Err(Difference::new("long copy", "does not read as its original")),
+    }
+    match library::check(copy.as_ptr(), copy.len()) {
+        Ok((0, 0)) => tally.note_check(0),
+        other => return Err(Difference::new("library on the long copy", shown(&other))),
+    }
+    Ok(())
 }

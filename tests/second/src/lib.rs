@@ -1,4 +1,7 @@
-//! A second MDF 3 file check, and the images to try it on.
+//! A second MDF 3 file check and canonical copy, and the images to try them
+//! on.
 
+pub mod canonical;
 pub mod make;
 pub mod mdf;
+pub mod reading;

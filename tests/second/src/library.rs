@@ -1,9 +1,11 @@
-//! The call of the library under test.
+//! The calls of the library under test.
 
-use crate::Answer;
+use crate::compare::Answer;
+use second::canonical;
 
 const FILL: u8 = 0xA5;
 const MARGIN: usize = 32;
+const ANSWER_SIZE: usize = 32;
 
 #[cfg(not(feature = "selfcheck"))]
 pub const NAME: &str = "linked mdf3";
@@ -13,39 +15,108 @@ pub const NAME: &str = "none, the second implementation checks itself";
 #[cfg(not(feature = "selfcheck"))]
 extern "C" {
     fn mdf3_check(image: *const u8, image_len: usize, answer: *mut u8) -> u32;
+    fn mdf3_copy(
+        image: *const u8,
+        image_len: usize,
+        out: *mut u8,
+        out_len: usize,
+        answer: *mut u8,
+    ) -> u32;
 }
 
-/// Stands in for the library: the second implementation behind the same call.
 #[cfg(feature = "selfcheck")]
-unsafe fn mdf3_check(image: *const u8, image_len: usize, answer: *mut u8) -> u32 {
-    // SAFETY: as for the library, the caller lends both parts of memory.
-    let (image, answer) = unsafe {
-        (
-            std::slice::from_raw_parts(image, image_len),
-            std::slice::from_raw_parts_mut(answer, 32),
-        )
-    };
-    let (number, place) = crate::second_answer(image);
-    answer.fill(0);
-    answer[..8].copy_from_slice(&place.to_le_bytes());
-    number
+use stand_in::{mdf3_check, mdf3_copy};
+
+/// Stands in for the library: the second implementation behind the same calls.
+#[cfg(feature = "selfcheck")]
+mod stand_in {
+    use crate::compare;
+    use second::canonical;
+    use std::slice::{from_raw_parts, from_raw_parts_mut};
+
+    pub unsafe fn mdf3_check(image: *const u8, image_len: usize, answer: *mut u8) -> u32 {
+        // SAFETY: as for the library, the caller lends both parts of memory.
+        let (image, answer) =
+            unsafe { (from_raw_parts(image, image_len), from_raw_parts_mut(answer, 32)) };
+        let (number, place) = match second::mdf::check(image) {
+            Ok(_) => (0, 0),
+            Err(refusal) => (refusal.number, refusal.place),
+        };
+        answer.fill(0);
+        answer[..8].copy_from_slice(&place.to_le_bytes());
+        number
+    }
+
+    pub unsafe fn mdf3_copy(
+        image: *const u8,
+        image_len: usize,
+        out: *mut u8,
+        out_len: usize,
+        answer: *mut u8,
+    ) -> u32 {
+        // SAFETY: as for the library, the caller lends three parts of memory.
+        let (image, out, answer) = unsafe {
+            (
+                from_raw_parts(image, image_len),
+                from_raw_parts_mut(out, out_len),
+                from_raw_parts_mut(answer, 32),
+            )
+        };
+        let found = compare::find(image);
+        let told = canonical::answer(compare::length_of(&found), out_len as u64);
+        if let (0, Ok(found)) = (told.number, &found) {
+            let mut end = 0;
+            canonical::pieces(&found.reading, |piece| {
+                out[end..end + piece.len()].copy_from_slice(piece);
+                end += piece.len();
+            });
+        }
+        answer.fill(0);
+        answer[..8].copy_from_slice(&told.place.to_le_bytes());
+        answer[8..16].copy_from_slice(&told.value.to_le_bytes());
+        told.number
+    }
 }
 
-/// Calls the check and looks at all it wrote. The answer lies between two
-/// margins that have to stay as they are.
-pub fn check(image: *const u8, length: usize) -> Result<Answer, String> {
-    let mut memory = [FILL; MARGIN + 32 + MARGIN];
-    // SAFETY: the image is `length` bytes long and the answer has 32 bytes.
-    let number = unsafe { mdf3_check(image, length, memory.as_mut_ptr().add(MARGIN)) };
+/// Lends an answer between two margins to a call; hands back the number and
+/// the answer's four numbers.
+fn with_answer(call: impl FnOnce(*mut u8) -> u32) -> Result<(u32, [u64; 4]), String> {
+    let mut memory = [FILL; MARGIN + ANSWER_SIZE + MARGIN];
+    let number = call(memory[MARGIN..].as_mut_ptr());
     let (before, rest) = memory.split_at(MARGIN);
-    let (answer, after) = rest.split_at(32);
+    let (answer, after) = rest.split_at(ANSWER_SIZE);
     if before.iter().chain(after).any(|&byte| byte != FILL) {
         return Err(format!("number {number}, wrote outside the answer"));
     }
-    if answer[8..].iter().any(|&byte| byte != 0) {
-        return Err(format!("number {number}, answer bytes {answer:02x?}"));
+    let mut parts = [0; 4];
+    for (part, bytes) in parts.iter_mut().zip(answer.chunks_exact(8)) {
+        *part = bytes.iter().rev().fold(0, |sum, &byte| sum << 8 | u64::from(byte));
     }
-    let mut place = [0; 8];
-    place.copy_from_slice(&answer[..8]);
-    Ok((number, u64::from_le_bytes(place)))
+    Ok((number, parts))
+}
+
+/// Calls the check and looks at all it wrote.
+pub fn check(image: *const u8, length: usize) -> Result<Answer, String> {
+    // SAFETY: the image is `length` bytes long and the answer has 32 bytes.
+    let (number, parts) = with_answer(|answer| unsafe { mdf3_check(image, length, answer) })?;
+    match parts {
+        [place, 0, 0, 0] => Ok((number, place)),
+        _ => Err(format!("number {number}, answer {parts:?}")),
+    }
+}
+
+/// Calls the copy and looks at its answer; the output is the caller's matter.
+pub fn copy(
+    image: *const u8,
+    length: usize,
+    out: *mut u8,
+    room: usize,
+) -> Result<canonical::Answer, String> {
+    // SAFETY: the image has `length` bytes, the output `room` and the answer 32.
+    let call = |answer| unsafe { mdf3_copy(image, length, out, room, answer) };
+    let (number, parts) = with_answer(call)?;
+    match parts {
+        [place, value, 0, 0] => Ok(canonical::Answer { number, place, value }),
+        _ => Err(format!("number {number}, answer {parts:?}")),
+    }
 }

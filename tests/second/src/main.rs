@@ -1,62 +1,33 @@
-//! Compares the library's file check with the second implementation.
+//! Compares the library's check and copy with the second implementation.
 //!
-//! Named cases first, then random images, then very long ones. Exit code 0
-//! when all answers agree, 1 at a difference, 2 for wrong options.
+//! Named cases first, then random images, then very long images and copies.
+//! Exit code 0 when all answers agree, 1 at a difference, 2 for wrong
+//! options.
 
 mod big;
+mod compare;
 mod library;
+mod output;
+mod tally;
 
+use compare::{Difference, Wanted};
+use output::Output;
 use second::make::{self, cases};
-use second::mdf;
 use std::path::PathBuf;
 use std::process::ExitCode;
 use std::sync::atomic::{AtomicBool, Ordering};
 use std::time::Instant;
+use tally::Tally;
 
 const DEFAULT_COUNT: u64 = 120_000;
 const DEFAULT_SEED: u64 = 0x4D44_4633;
 const WORKERS: u64 = 2;
 const MOST_TOLD: u64 = 20;
 
-/// Number and place.
-pub type Answer = (u32, u64);
-
 pub struct Options {
     count: u64,
     seed: u64,
     out: PathBuf,
-}
-
-/// How many images gave each number.
-#[derive(Clone, Copy, Default)]
-pub struct Tally([u64; 12]);
-
-impl Tally {
-    fn note(&mut self, answer: Answer) {
-        if let Some(cell) = self.0.get_mut(answer.0 as usize) {
-            *cell += 1;
-        }
-    }
-
-    fn add(&mut self, other: &Tally) {
-        for (cell, more) in self.0.iter_mut().zip(other.0) {
-            *cell += more;
-        }
-    }
-
-    fn print(&self, label: &str) {
-        let parts: Vec<String> =
-            self.0.iter().enumerate().map(|(n, count)| format!("{n}:{count}")).collect();
-        println!("{label}: {}", parts.join(" "));
-    }
-}
-
-/// The second implementation's answer.
-pub fn second_answer(image: &[u8]) -> Answer {
-    match mdf::check(image) {
-        Ok(_) => (0, 0),
-        Err(refusal) => (refusal.number, refusal.place),
-    }
 }
 
 /// Tells of a difference and keeps the image.
@@ -78,45 +49,23 @@ pub fn report(options: &Options, name: &str, image: Option<&[u8]>, difference: &
     print!("{text}");
 }
 
-pub fn shown(answer: &Result<Answer, String>) -> String {
-    match answer {
-        Ok((number, place)) => format!("number {number}, place {place}"),
-        Err(trouble) => trouble.clone(),
-    }
-}
-
-/// What was answered when the answers differ.
-pub struct Difference(Vec<(&'static str, String)>);
-
-/// Compares both answers with each other and with what is expected.
-pub fn compare(image: &[u8], expected: Option<Answer>) -> Result<Answer, Difference> {
-    let second = second_answer(image);
-    let library = library::check(image.as_ptr(), image.len());
-    let wanted = expected.unwrap_or(second);
-    if second == wanted && library == Ok(wanted) {
-        return Ok(wanted);
-    }
-    let mut lines = vec![("library", shown(&library)), ("second", shown(&Ok(second)))];
-    if expected.is_some() {
-        lines.push(("expected", shown(&Ok(wanted))));
-    }
-    Err(Difference(lines))
-}
-
 /// All named cases; the first differences are told, all are counted.
 fn run_named(options: &Options) -> Option<Tally> {
     let mut tally = Tally::default();
+    let mut output = Output::default();
     let list = cases::all();
     let mut wrong = 0;
     for case in &list {
-        let expected = Some((case.number, case.place));
-        match compare(&case.image, expected) {
-            Ok(answer) => tally.note(answer),
-            Err(difference) => {
-                wrong += 1;
-                if wrong <= MOST_TOLD {
-                    report(options, &case.name, Some(&case.image), &difference);
-                }
+        let wanted = Wanted {
+            check: Some((case.number, case.place)),
+            length: case.length,
+            copy: case.copy.as_deref(),
+        };
+        let compared = compare::compare(&case.image, &wanted, &mut output, &mut tally);
+        if let Err(difference) = compared {
+            wrong += 1;
+            if wrong <= MOST_TOLD {
+                report(options, &case.name, Some(&case.image), &difference);
             }
         }
     }
@@ -124,20 +73,31 @@ fn run_named(options: &Options) -> Option<Tally> {
     (wrong == 0).then_some(tally)
 }
 
+/// One random image, and its kin.
+fn run_drawn(
+    drawn: &make::Drawn,
+    output: &mut Output,
+    tally: &mut Tally,
+) -> Result<(), Difference> {
+    let check = drawn.valid.then_some((0, 0));
+    compare::compare(&drawn.image, &Wanted { check, ..Wanted::default() }, output, tally)?;
+    if let Some(kin) = &drawn.kin {
+        compare::compare_pair(&drawn.image, kin, drawn.valid, tally)?;
+    }
+    Ok(())
+}
+
 /// Every `WORKERS`th image from `first` on; stops at a difference.
 fn run_share(options: &Options, first: u64, stop: &AtomicBool) -> Tally {
     let mut tally = Tally::default();
+    let mut output = Output::default();
     let mut index = first;
     while index < options.count && !stop.load(Ordering::Relaxed) {
         let drawn = make::draw(options.seed, index);
-        let expected = drawn.valid.then_some((0, 0));
-        match compare(&drawn.image, expected) {
-            Ok(answer) => tally.note(answer),
-            Err(difference) => {
-                let name = format!("seed {} index {index}", options.seed);
-                report(options, &name, Some(&drawn.image), &difference);
-                stop.store(true, Ordering::Relaxed);
-            }
+        if let Err(difference) = run_drawn(&drawn, &mut output, &mut tally) {
+            let name = format!("seed {} index {index}", options.seed);
+            report(options, &name, Some(&drawn.image), &difference);
+            stop.store(true, Ordering::Relaxed);
         }
         index += WORKERS;
     }

@@ -1,6 +1,8 @@
 //! Named cases. Each expected answer follows from how the image was built.
 
+mod copies;
 mod fields;
+mod lengths;
 mod limits;
 mod opening;
 mod order;
@@ -14,6 +16,10 @@ pub struct Case {
     pub image: Vec<u8>,
     pub number: u32,
     pub place: u64,
+    /// The length of the copy, where it is known beforehand.
+    pub length: Option<u64>,
+    /// The copy itself, where it is known beforehand.
+    pub copy: Option<Vec<u8>>,
 }
 
 /// Collects cases.
@@ -29,7 +35,22 @@ impl Book {
 
     fn expect(&mut self, name: impl Into<String>, image: &[u8], number: u32, place: usize) {
         let (name, image) = (name.into(), image.to_vec());
-        self.cases.push(Case { name, image, number, place: place as u64 });
+        let place = place as u64;
+        self.cases.push(Case { name, image, number, place, length: None, copy: None });
+    }
+
+    /// An accepted image whose copy has this length.
+    fn of_length(&mut self, name: impl Into<String>, image: &[u8], length: u64) {
+        let (name, image, length) = (name.into(), image.to_vec(), Some(length));
+        self.cases.push(Case { name, image, number: 0, place: 0, length, copy: None });
+    }
+
+    /// An accepted image whose copy has these bytes.
+    fn copied(&mut self, name: impl Into<String>, image: &[u8], copy: &[u8]) {
+        self.of_length(name, image, copy.len() as u64);
+        if let Some(case) = self.cases.last_mut() {
+            case.copy = Some(copy.to_vec());
+        }
     }
 }
 
@@ -42,9 +63,12 @@ pub fn all() -> Vec<Case> {
     limits::cases(&mut book);
     records::cases(&mut book);
     order::cases(&mut book);
+    copies::cases(&mut book);
+    lengths::cases(&mut book);
     // The sample file has version 200, and no other fault.
     book.expect("sample file", include_bytes!("../../../data/sample000.mdf"), 4, 28);
-    book.accept("sample file as version 300", include_bytes!("../../../data/sample000_v300.mdf"));
+    let sample = include_bytes!("../../../data/sample000_v300.mdf");
+    book.of_length("sample file as version 300", sample, 4_765);
     book.cases
 }
 

@@ -130,8 +130,9 @@ struct SharedData {
     shapes: Vec<GroupShape>,
 }
 
+/// The blocks of a file, before they have places.
 #[derive(Default)]
-struct Plan {
+pub struct Plan {
     nodes: Vec<Node>,
     /// Blocks that still have room for a block inside: number, offset, room.
     hosts: Vec<(usize, usize, usize)>,
@@ -151,6 +152,12 @@ fn set32(bytes: &mut [u8], at: usize, value: u32) {
 }
 
 impl Plan {
+    /// Whether every layout of the blocks reads the same: no records lie
+    /// over whatever is there.
+    pub fn has_one_reading(&self) -> bool {
+        self.anywhere.is_empty()
+    }
+
     fn add(&mut self, kind: &[u8; 2], bytes: Vec<u8>) -> usize {
         self.nodes.push(Node { kind: *kind, bytes, links: Vec::new(), inside: None });
         self.nodes.len() - 1
@@ -438,6 +445,12 @@ fn start_plan(rng: &mut Rng) -> Plan {
 
 /// A random file that has to be accepted.
 pub fn file(rng: &mut Rng) -> Made {
+    let plan = plan(rng);
+    lay_down(rng, &plan)
+}
+
+/// The blocks of a random file that has to be accepted.
+pub fn plan(rng: &mut Rng) -> Plan {
     let mut plan = start_plan(rng);
     let mut first = None;
     for _ in 0..rng.pick(&[0, 1, 1, 1, 1, 2, 2, 2, 3, 4]) {
@@ -448,11 +461,11 @@ pub fn file(rng: &mut Rng) -> Made {
     plan.link(1, 8, comment);
     let program = plan.body(rng, b"PR", 60);
     plan.link(1, 12, program);
-    lay_down(rng, plan)
+    plan
 }
 
 /// Puts every block at its place and fills in the links.
-fn lay_down(rng: &mut Rng, plan: Plan) -> Made {
+pub fn lay_down(rng: &mut Rng, plan: &Plan) -> Made {
     let mut order: Vec<usize> = (2..plan.nodes.len()).collect();
     if rng.chance(80) {
         rng.shuffle(&mut order);
@@ -489,8 +502,8 @@ fn lay_down(rng: &mut Rng, plan: Plan) -> Made {
     if bytes.len() < needed {
         bytes.resize(needed, 0);
     }
-    fill_links(rng, &plan, &places, &mut bytes);
-    describe(&plan, &places, bytes)
+    fill_links(rng, plan, &places, &mut bytes);
+    describe(plan, &places, bytes)
 }
 
 fn fill_links(rng: &mut Rng, plan: &Plan, places: &[usize], bytes: &mut [u8]) {

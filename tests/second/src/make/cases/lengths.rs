@@ -1,0 +1,48 @@
+//! Small files with copies too long to make (12) or for the output (13).
+
+use super::super::long;
+use super::Book;
+
+const LONGEST: u64 = 2_147_483_647;
+const WRAP: u64 = 1 << 32;
+
+pub fn cases(book: &mut Book) {
+    // Kept in 32 bits, signed or not, some of these would seem to be short.
+    for length in [
+        70_000,
+        1_000_000,
+        40_000_000,
+        LONGEST - 1,
+        LONGEST,
+        LONGEST + 1,
+        LONGEST + 2,
+        WRAP - 1,
+        WRAP,
+        WRAP + 1,
+        WRAP + 500_000,
+        2 * WRAP + 7,
+    ] {
+        let sheet = long::with_copy_of(length);
+        book.of_length(format!("shared records, copy of {length}"), &sheet.bytes, length);
+    }
+    for sizes in [
+        [46, 6, 4, 4, 4],
+        // 2,147,477,732 and 2,147,494,116 bytes.
+        [65_535, 65_293, 4, 4, 4],
+        [65_535, 65_294, 4, 4, 4],
+        // 4,294,977,764 bytes.
+        [65_535, 65_535, 65_535, 65_304, 4],
+        [65_535; 5],
+    ] {
+        let (sheet, length) = long::with_bodies(sizes);
+        book.of_length(format!("shared bodies of {sizes:?}"), &sheet.bytes, length);
+    }
+    for mode in [1, 2] {
+        // 6, 254 and 2,168 million bytes.
+        for data_groups in [1, 40, 341] {
+            let (sheet, length) = long::unsorted(mode, data_groups);
+            let name = format!("mode {mode}, records shared by {data_groups} data groups");
+            book.of_length(name, &sheet.bytes, length);
+        }
+    }
+}
