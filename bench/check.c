@@ -1,82 +1,12 @@
 /* How long mdf3_check takes, beside a check in plain C, a plain read and a memcpy of the same bytes, in one run.
  * The figures are ratios; nothing here passes or fails by time. */
-#define _POSIX_C_SOURCE 200809L
+#include "made.h"
 #include "mdf3.h"
 #include "plain.h"
 
 #include <stdio.h>
 #include <stdlib.h>
 #include <string.h>
-#include <time.h>
-
-static void put(uint8_t *image, size_t at, uint64_t x, int n)
-{
-    for (int i = 0; i < n; i++)
-        image[at + (size_t)i] = (uint8_t)(x >> (8 * i));
-}
-
-static size_t block(uint8_t *image, size_t *end, const char *id, unsigned size)
-{
-    size_t at = *end;
-    memcpy(image + at, id, 2);
-    put(image, at + 2, size, 2);
-    *end += size;
-    return at;
-}
-
-/* A file of about so many bytes: one data group in this mode, groups with 4 channels each whose records are
- * 8, 12 and 20 bytes long, in turn. Mode 0 has one group. */
-static size_t make(uint8_t *image, size_t room, unsigned mode)
-{
-    static const unsigned sizes[3] = {8, 12, 20};
-    unsigned groups = mode == 0 ? 1 : 3;
-    uint32_t counts[3] = {0, 0, 0};
-    size_t cg[3], end = 64, dg, link;
-    memset(image, 0, room);
-    memcpy(image, "MDF     3.30    bench   ", 24);
-    put(image, 28, 330, 2);
-    size_t hd = block(image, &end, "HD", 208);
-    dg = block(image, &end, "DG", 28);
-    put(image, hd + 4, dg, 4);
-    put(image, dg + 22, mode, 2);
-    link = dg + 8;
-    for (unsigned g = 0; g < groups; g++) {
-        cg[g] = block(image, &end, "CG", 30);
-        put(image, link, cg[g], 4);
-        put(image, cg[g] + 16, g + 1, 2);
-        put(image, cg[g] + 20, sizes[g], 2);
-        link = cg[g] + 8;
-        for (unsigned n = 0; n < 4; n++) {
-            size_t cn = block(image, &end, "CN", 228);
-            put(image, link, cn, 4);
-            put(image, cn + 186, 16 * n, 2);
-            put(image, cn + 188, 16, 2);
-            link = cn + 4;
-        }
-        link = cg[g] + 4;
-    }
-    put(image, dg + 16, end, 4);
-    for (unsigned g = 0;; g = (g + 1) % groups) {
-        if (room - end < sizes[g] + mode)
-            break;
-        if (mode > 0)
-            image[end] = (uint8_t)(g + 1);
-        if (mode > 1)
-            image[end + 1 + sizes[g]] = (uint8_t)(g + 1);
-        end += sizes[g] + mode;
-        counts[g]++;
-    }
-    for (unsigned g = 0; g < groups; g++)
-        put(image, cg[g] + 22, counts[g], 4);
-    return end;
-}
-
-static double now(void)
-{
-    struct timespec t;
-    clock_gettime(CLOCK_MONOTONIC, &t);
-    return (double)t.tv_sec + 1e-9 * (double)t.tv_nsec;
-}
 
 static volatile uint64_t kept;
 
@@ -120,7 +50,7 @@ static void measure(const char *name, size_t room, unsigned mode, int rounds)
     uint8_t *image = malloc(room), *to = malloc(room);
     if (image == NULL || to == NULL)
         exit(2);
-    size_t length = make(image, room, mode);
+    size_t length = made(image, room, mode);
     memset(to, 1, room);
     for (int turn = 0; turn < 25; turn++) {
         for (int what = 0; what < 4; what++) {

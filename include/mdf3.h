@@ -11,8 +11,12 @@
  *     changes before the call returns. image_len is at most SIZE_MAX / 2.
  *     Where image_len is 0 nothing is read through image; it may point
  *     anywhere, and must not be NULL.
- *   - answer points to 32 bytes that can be written. They do not overlap
- *     the image.
+ *   - out, where a call has it, points to out_len bytes that can be written
+ *     and that nobody else uses before the call returns. out_len is at most
+ *     SIZE_MAX / 2. Where it is 0 nothing is read or written through out;
+ *     it may point anywhere, and must not be NULL.
+ *   - answer points to 32 bytes that can be written.
+ *   - image, out and answer do not overlap each other.
  * Less than 16 KB of stack is used.
  *
  * The archive is built for x86-64 Linux.
@@ -30,8 +34,8 @@ extern "C" {
 /* The numbers that calls return. With each the answer holds one place: an
  * offset in the image, except where another meaning is given. The first
  * fault in the order of docs/RULES.md decides, and there is never more
- * than one. Calls so far give 0 to 11; 12 to 16 belong to copying and
- * sampling, which are not in the library yet.
+ * than one. Check gives 0 to 11, copy 0 to 13; 14 to 16 belong to
+ * sampling, which is not in the library yet.
  *
  *    0  done. The place is 0.
  *    1  the image is longer than 2,147,483,647 bytes. Place 0.
@@ -92,6 +96,18 @@ extern "C" {
 /* Whether the image is accepted: returns 0, or 1 to 11. The answer holds the
  * place; value, length and kind are 0. */
 uint32_t mdf3_check(const uint8_t *image, size_t image_len, uint8_t answer[MDF3_ANSWER_SIZE]);
+
+/* Writes the canonical copy of the image to out, which has room for out_len
+ * bytes: returns 0, or 1 to 13. The image need not have been checked before.
+ *
+ * Done: the copy stands at the start of out, what lies behind it there is
+ * left as it was, and the value is the copy's length. Refused: no byte of
+ * out is touched, and the value is 0. The answer holds the place; with 13
+ * that is the length needed, so a call with out_len 0 tells how much room
+ * to make. Length and kind are 0.
+ */
+uint32_t mdf3_copy(const uint8_t *image, size_t image_len, uint8_t *out, size_t out_len,
+                   uint8_t answer[MDF3_ANSWER_SIZE]);
 
 #ifdef __cplusplus
 }

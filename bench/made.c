@@ -1,0 +1,80 @@
+#define _POSIX_C_SOURCE 200809L
+#include "made.h"
+
+#include <string.h>
+#include <time.h>
+
+static void put(uint8_t *image, size_t at, uint64_t x, int n)
+{
+    for (int i = 0; i < n; i++)
+        image[at + (size_t)i] = (uint8_t)(x >> (8 * i));
+}
+
+static size_t block(uint8_t *image, size_t *end, const char *id, unsigned size)
+{
+    size_t at = *end;
+    memcpy(image + at, id, 2);
+    put(image, at + 2, size, 2);
+    *end += size;
+    return at;
+}
+
+static const unsigned sizes[3] = {8, 12, 20};
+
+/* One channel group with its 4 channels, behind a link field. */
+static size_t group(uint8_t *image, size_t *end, size_t link, unsigned g)
+{
+    size_t cg = block(image, end, "CG", 30);
+    put(image, link, cg, 4);
+    put(image, cg + 16, g + 1, 2);
+    put(image, cg + 20, sizes[g], 2);
+    link = cg + 8;
+    for (unsigned n = 0; n < 4; n++) {
+        size_t cn = block(image, end, "CN", 228);
+        put(image, link, cn, 4);
+        put(image, cn + 186, 16 * n, 2);
+        put(image, cn + 188, 16, 2);
+        link = cn + 4;
+    }
+    return cg;
+}
+
+size_t made(uint8_t *image, size_t room, unsigned mode)
+{
+    unsigned groups = mode == 0 ? 1 : 3;
+    uint32_t counts[3] = {0, 0, 0};
+    size_t cg[3], end = 64, hd, dg, link;
+    memset(image, 0, room);
+    memcpy(image, "MDF     3.30    bench   ", 24);
+    put(image, 28, 330, 2);
+    hd = block(image, &end, "HD", 208);
+    dg = block(image, &end, "DG", 28);
+    put(image, hd + 4, dg, 4);
+    put(image, dg + 22, mode, 2);
+    link = dg + 8;
+    for (unsigned g = 0; g < groups; g++) {
+        cg[g] = group(image, &end, link, g);
+        link = cg[g] + 4;
+    }
+    put(image, dg + 16, end, 4);
+    for (unsigned g = 0; room - end >= sizes[g] + mode; g = (g + 1) % groups) {
+        if (mode > 0)
+            image[end] = (uint8_t)(g + 1);
+        /* records that differ, so that one in a wrong place shows */
+        put(image, end + (mode > 0), end * 2654435761u, 8);
+        if (mode > 1)
+            image[end + 1 + sizes[g]] = (uint8_t)(g + 1);
+        end += sizes[g] + mode;
+        counts[g]++;
+    }
+    for (unsigned g = 0; g < groups; g++)
+        put(image, cg[g] + 22, counts[g], 4);
+    return end;
+}
+
+double now(void)
+{
+    struct timespec t;
+    clock_gettime(CLOCK_MONOTONIC, &t);
+    return (double)t.tv_sec + 1e-9 * (double)t.tv_nsec;
+}
