@@ -70,7 +70,8 @@ static size_t needed(const struct work *w)
 {
     uint8_t answer[MDF3_ANSWER_SIZE], other[MDF3_ANSWER_SIZE], none;
     size_t length = 0;
-    if (mdf3_copy(w->image, w->length, &none, 0, answer) != 13 || plain_copy(w->image, w->length, &none, 0, other) != 13)
+    if (mdf3_copy(w->image, w->length, &none, 0, answer) != 13
+        || plain_copy(w->image, w->length, &none, 0, other) != 13)
         fail("no length needed");
     if (memcmp(answer, other, MDF3_ANSWER_SIZE) != 0)
         fail("the lengths needed differ");

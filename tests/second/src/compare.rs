@@ -4,6 +4,7 @@ use crate::library;
 use crate::output::Output;
 use crate::tally::Tally;
 use second::canonical;
+use second::make::cases::Told;
 use second::mdf::{self, Refusal};
 use second::reading::Reading;
 
@@ -37,6 +38,7 @@ pub struct Wanted<'a> {
     pub check: Option<Answer>,
     pub length: Option<u64>,
     pub copy: Option<&'a [u8]>,
+    pub told: &'a [Told],
 }
 
 /// What was answered when the answers differ.
@@ -83,7 +85,9 @@ pub fn compare(
         }
     }
     let length = length_of(&found);
-    for (turn, room) in rooms(image.len(), length).into_iter().enumerate() {
+    known_answers(length, wanted.told)?;
+    let told = wanted.told.iter().map(|told| told.room);
+    for (turn, room) in rooms(image.len(), length).into_iter().chain(told).enumerate() {
         let fill = [0xA5, 0x5A, 0x00, 0xFF, 0x3C][turn % 5];
         output.prepare(room, fill);
         let answer = compare_answer(image, length, output, tally)?;
@@ -135,6 +139,22 @@ fn made_copy(found: &Found<'_>, expected: Option<&[u8]>) -> Result<Vec<u8>, Diff
         }
         Ok(_) => Ok(copy),
     }
+}
+
+/// The second implementation's answers beside those known beforehand.
+fn known_answers(length: Result<u64, Refusal>, list: &[Told]) -> Result<(), Difference> {
+    for &Told { room, number, place, value } in list {
+        let known = Ok(canonical::Answer { number, place, value });
+        let second = Ok(canonical::answer(length, room as u64));
+        if second != known {
+            return Err(Difference(vec![
+                ("room", room.to_string()),
+                ("second's copy", shown_copy(&second)),
+                ("expected", shown_copy(&known)),
+            ]));
+        }
+    }
+    Ok(())
 }
 
 /// The lengths of output that an image is copied to.

@@ -60,6 +60,7 @@ fn run_named(options: &Options) -> Option<Tally> {
             check: Some((case.number, case.place)),
             length: case.length,
             copy: case.copy.as_deref(),
+            told: &case.told,
         };
         let compared = compare::compare(&case.image, &wanted, &mut output, &mut tally);
         if let Err(difference) = compared {

@@ -20,6 +20,17 @@ pub struct Case {
     pub length: Option<u64>,
     /// The copy itself, where it is known beforehand.
     pub copy: Option<Vec<u8>>,
+    /// Answers to a copy that are known beforehand.
+    pub told: Vec<Told>,
+}
+
+/// What a copy into an output of so many bytes has to answer.
+#[derive(Clone, Copy)]
+pub struct Told {
+    pub room: usize,
+    pub number: u32,
+    pub place: u64,
+    pub value: u64,
 }
 
 /// Collects cases.
@@ -34,23 +45,30 @@ impl Book {
     }
 
     fn expect(&mut self, name: impl Into<String>, image: &[u8], number: u32, place: usize) {
-        let (name, image) = (name.into(), image.to_vec());
-        let place = place as u64;
-        self.cases.push(Case { name, image, number, place, length: None, copy: None });
+        let (name, image, place) = (name.into(), image.to_vec(), place as u64);
+        let (length, copy, told) = (None, None, Vec::new());
+        self.cases.push(Case { name, image, number, place, length, copy, told });
     }
 
     /// An accepted image whose copy has this length.
     fn of_length(&mut self, name: impl Into<String>, image: &[u8], length: u64) {
-        let (name, image, length) = (name.into(), image.to_vec(), Some(length));
-        self.cases.push(Case { name, image, number: 0, place: 0, length, copy: None });
+        self.accept(name, image);
+        self.last().length = Some(length);
     }
 
     /// An accepted image whose copy has these bytes.
     fn copied(&mut self, name: impl Into<String>, image: &[u8], copy: &[u8]) {
         self.of_length(name, image, copy.len() as u64);
-        if let Some(case) = self.cases.last_mut() {
-            case.copy = Some(copy.to_vec());
-        }
+        self.last().copy = Some(copy.to_vec());
+    }
+
+    /// What copying the last image into so much room has to answer.
+    fn told(&mut self, room: usize, number: u32, place: u64, value: u64) {
+        self.last().told.push(Told { room, number, place, value });
+    }
+
+    fn last(&mut self) -> &mut Case {
+        self.cases.last_mut().expect("a case has been added")
     }
 }
 
@@ -67,8 +85,12 @@ pub fn all() -> Vec<Case> {
     lengths::cases(&mut book);
     // The sample file has version 200, and no other fault.
     book.expect("sample file", include_bytes!("../../../data/sample000.mdf"), 4, 28);
+    book.told(0, 4, 28, 0);
+    book.told(10_000, 4, 28, 0);
     let sample = include_bytes!("../../../data/sample000_v300.mdf");
     book.of_length("sample file as version 300", sample, 4_765);
+    book.told(4_765, 0, 0, 4_765);
+    book.told(4_764, 13, 4_765, 0);
     book.cases
 }
 

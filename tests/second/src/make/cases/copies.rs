@@ -71,6 +71,8 @@ fn filled(sheet: &mut Sheet, field: usize, kind: &[u8; 2], size: usize, byte: u8
 fn headers(book: &mut Book) {
     let smallest = Sheet::new(300, 164).bytes;
     book.copied("smallest file, copied", &smallest, &smallest);
+    book.told(228, 0, 0, 228);
+    book.told(227, 13, 228, 0);
     let sizes = [164, 165, 171, 172, 173, 174, 175, 176, 177, 207, 208, 209, 260, 1000];
     for version in [300, 319, 320, 321, 399] {
         for size in sizes {
@@ -113,6 +115,9 @@ fn marked_example(book: &mut Book) {
         let mut file = logged(mode, &[(1, 2, 2), (2, 1, 1)], data);
         file.sheet.linked(file.cg[0] + 8, b"CN", 228);
         book.copied(format!("mode {mode} example, copied"), &file.sheet.bytes, &copy.bytes);
+        book.told(577, 0, 0, 577);
+        book.told(576, 13, 577, 0);
+        book.told(0, 13, 577, 0);
     }
 }
 
