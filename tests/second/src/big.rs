@@ -157,15 +157,16 @@ fn long_output(tally: &mut Tally) -> Result<(), Difference> {
     let longest = with_copy_of(LONGEST as u64).bytes;
     let longer = with_copy_of(LONGEST as u64 + 1).bytes;
     for (image, room) in [(&longer, LONGEST + 1), (&longer, LONGEST), (&longest, LONGEST - 1)] {
-        output.shorten(room);
+        output.limit(room);
         let length = compare::length_of(&compare::find(image));
         compare::compare_answer(image, length, &mut output, tally)?;
         if !output.untouched_beyond(0) {
             return Err(Difference::new("refused copy", format!("room {room}: touched")));
         }
     }
-    for image in [Sheet::new(320, 164).bytes, longest] {
-        output.shorten(LONGEST);
+    let small = Sheet::new(320, 164).bytes;
+    for (image, room) in [(small, LONGEST + 1), (longest, LONGEST)] {
+        output.limit(room);
         whole_copy(&image, &mut output, tally)?;
     }
     Ok(())

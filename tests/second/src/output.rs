@@ -18,8 +18,8 @@ impl Output {
         self.fill = fill;
     }
 
-    /// Takes less room of the same memory; the rest becomes margin.
-    pub fn shorten(&mut self, room: usize) {
+    /// Takes so much room of the memory prepared; the rest becomes margin.
+    pub fn limit(&mut self, room: usize) {
         assert!(room + 2 * MARGIN <= self.memory.len());
         self.room = room;
     }

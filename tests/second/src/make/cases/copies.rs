@@ -339,8 +339,9 @@ fn without_records(book: &mut Book) {
     }
 }
 
-/// Five groups as ID, record size and record count; two of them idle.
-const FIVE: [(u16, u16, u32); 5] = [(3, 1, 5), (0, 2, 0), (255, 3, 4), (7, 0, 0), (1, 2, 3)];
+/// Five groups as ID, record size and record count; two of them idle. Two
+/// IDs differ in the highest bit alone.
+const FIVE: [(u16, u16, u32); 5] = [(3, 1, 5), (0, 2, 0), (131, 3, 4), (255, 0, 0), (1, 2, 3)];
 
 /// The groups, by number, in the order in which records are logged.
 const ORDERS: [[usize; 12]; 4] = [
@@ -360,7 +361,7 @@ fn interleaved(book: &mut Book) {
             for (turn, &group) in order.iter().enumerate() {
                 let (id, size, _) = FIVE[group];
                 // Contents look like IDs now and then.
-                let record = vec![[3, 255, 1, 40][turn % 4] ^ (turn as u8 / 4); size.into()];
+                let record = vec![[3, 131, 1, 255][turn % 4] ^ (turn as u8 / 4); size.into()];
                 data.push(id as u8);
                 data.extend(&record);
                 data.extend((mode == 2).then_some(id as u8));
