@@ -103,8 +103,8 @@ pub extern "C" fn mdf3_copy(image: &[u8], out: &mut [u8], answer: &mut [u8; 32])
             *answer = answer_bytes(0, length as u64, 0, 0);
             0
         }
-        Copied::Refused(number, place) => {
-            *answer = answer_bytes(place as u64, 0, 0, 0);
+        Copied::Refused(number, at) => {
+            *answer = answer_bytes(at as u64, 0, 0, 0);
             number
         }
     }
