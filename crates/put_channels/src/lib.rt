@@ -195,19 +195,15 @@ pub fn channels_sum(image: &[u8], channels: Channels) -> Sum
     let mut sum: usize = 0;
     let mut count: usize = 0;
     loop {
-        match c.next(image) {
-            ChannelStep::Done => {
-                return Sum { length: sum, count };
-            }
-            ChannelStep::Next(x, n) => {
-                sum += channel_length(image, x);
-                if 2147483647 < sum {
-                    return Sum { length: sum, count };
-                }
-                count += 1;
-                c = n;
-            }
+        let ChannelStep::Next(x, n) = c.next(image) else {
+            return Sum { length: sum, count };
+        };
+        sum += channel_length(image, x);
+        if 2147483647 < sum {
+            return Sum { length: sum, count };
         }
+        count += 1;
+        c = n;
     }
 }
 

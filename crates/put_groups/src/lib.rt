@@ -89,19 +89,15 @@ pub fn groups_sum(image: &[u8], groups: Groups, start: usize) -> Sum
     let mut sum = start;
     let mut count: usize = 0;
     loop {
-        match c.next(image) {
-            GroupStep::Done => {
-                return Sum { length: sum, count };
-            }
-            GroupStep::Next(g, n) => {
-                sum += group_length(image, g);
-                if 2147483647 < sum {
-                    return Sum { length: sum, count };
-                }
-                count += 1;
-                c = n;
-            }
+        let GroupStep::Next(g, n) = c.next(image) else {
+            return Sum { length: sum, count };
+        };
+        sum += group_length(image, g);
+        if 2147483647 < sum {
+            return Sum { length: sum, count };
         }
+        count += 1;
+        c = n;
     }
 }
 

@@ -70,9 +70,9 @@ channels-sum-spec =
     μ-loop
     loop-holds
     next-requires
+    enum-known-x
     enum-told
     returns
-    enum-known-x
     channel-length-requires
     add-sum
     returns-2

@@ -71,9 +71,9 @@ groups-sum-spec =
     μ-loop
     loop-holds
     next-requires
+    enum-known-g
     enum-told
     returns
-    enum-known-g
     group-length-requires
     add-sum
     returns-2
