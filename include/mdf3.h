@@ -104,7 +104,8 @@ uint32_t mdf3_check(const uint8_t *image, size_t image_len, uint8_t answer[MDF3_
  * left as it was, and the value is the copy's length. Refused: no byte of
  * out is touched, and the value is 0. The answer holds the place; with 13
  * that is the length needed, so a call with out_len 0 tells how much room
- * to make. Length and kind are 0.
+ * to make. It can be far more than the image has, since what is shared
+ * there is written once for every use. Length and kind are 0.
  */
 uint32_t mdf3_copy(const uint8_t *image, size_t image_len, uint8_t *out, size_t out_len,
                    uint8_t answer[MDF3_ANSWER_SIZE]);
