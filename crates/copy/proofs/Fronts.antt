@@ -13,9 +13,10 @@ use Rattle.blocks.proofs.Written.{hd-written}
 use Rattle.write.specs.Write.{Wrote, then, wrote-as, padded}
 use lib.Seq.{length-take-le}
 use borrow.Author.Tests.{lt-ltb, le-ltb}
+use Rattle.reading.specs.declared.Part.{Part}
 use Rattle.reading.specs.declared.File.{File}
 use Rattle.reading.specs.Promise.{imageReading}
-use Rattle.reading.specs.Steps.{AtFile, BodyIs, PlainIs, LaterIs}
+use Rattle.reading.specs.Steps.{AtFile, BodyIs, HeaderIs}
 use Rattle.reading.proofs.Promise.{file-long, file-ident}
 use Rattle.put_channels.specs.Spans.{spanBytes, spanLink}
 use Rattle.put_channels.proofs.Spans.{span-length, span-link, span-bytes}
@@ -30,19 +31,18 @@ module _ (image : List ℕ) (t : Front) (s : FrontIs image t (imageReading image
   abbrev r : Reading
   r = imageReading image
 
-  pub header-as : (f : File) (first tx pr count from held : ℕ)
+  pub header-as : (first tx pr count : ℕ) (p : Part)
       → first ≡ linkIf count (t .first)
       → tx ≡ spanLink (t .tx) (t .comment)
       → pr ≡ spanLink (t .pr) (t .program)
       → count ≡ length (imageReading image .groups)
-      → PlainIs image f from
-      → LaterIs image (f .hd .at + 164) held
-      → hdBytes (t .size) first tx pr count (take 146 (drop from image)) (padded image (from + 146) held (t .size - 164)) ≡ writeHd (version (imageReading image)) (length (imageReading image .groups)) (hdOf (imageReading image))
+      → HeaderIs image p
+      → hdBytes (t .size) first tx pr count (take 146 (drop (p .from) image)) (padded image (p .from + 146) (p .held) (t .size - 164)) ≡ writeHd (version (imageReading image)) (length (imageReading image .groups)) (hdOf (imageReading image))
   unfolding padded
-  header-as f first tx pr count from held e₁ e₂ e₃ e₄ p l =
+  header-as first tx pr count p e₁ e₂ e₃ e₄ h =
       let f₂ = e₂ ∙ span-link image (t .tx) (t .comment) (s .comment) in
       let f₃ = e₃ ∙ span-link image (t .pr) (t .program) (s .program) in
-      rw (e₁, f₂, f₃, e₄, s .tx, s .pr, s .first, s .size, p .place, sym (p .is), sym (l .is), link-if)
+      rw (e₁, f₂, f₃, e₄, s .tx, s .pr, s .first, s .size, sym (h .plain), sym (h .later), link-if)
       (sym (hd-written (version r) (length (r .groups)) (hdOf r)))
 
 -- ---- writing

@@ -40,7 +40,7 @@ copy-left {o} r n k ok h w =
     let e : length (canonicalCopy r) ≡ n = length-canonical r ok ∙ sym k in
     wrote-whole w (omega (arith, e)) ∙ ap (λ m. canonicalCopy r ++ drop m o) e
 
--- a length that is told to be above the longest copy is above it
+-- a sum above the longest copy stands for a length above it
 pub capped-over : {r n : ℕ} → Capped r n → 2147483647 < r → 2147483647 < n
 capped-over {r} {n} c h = go (leb n 2147483647) refl
   where

@@ -73,6 +73,7 @@ fn put_front(out: &mut [u8], image: &[u8], f: File, front: Front, count: usize)
     ensures { λ _. ⌜ Wrote (now (out .entry)) (now (out .exit)) 0 (frontAs (imageReading (now (image .entry)))) ⌝ }
 {
     write::put_part(out, 0, image, 0, 64);
+    let part = f.fields(image);
     let size = front.size;
     let comment = front.comment;
     let program = front.program;
@@ -83,8 +84,8 @@ fn put_front(out: &mut [u8], image: &[u8], f: File, front: Front, count: usize)
         out,
         64,
         image,
-        f.plain(image),
-        f.later(image),
+        part.from,
+        part.held,
         size,
         first,
         tx,

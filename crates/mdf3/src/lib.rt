@@ -91,7 +91,7 @@ pub extern "C" fn mdf3_check(image: &[u8], answer: &mut [u8; 32]) -> u32
     }
 }
 
-// The canonical copy of an image in the output: the number is returned, the answer holds place and length.
+// The canonical copy of an image in the output: the number is returned, the answer holds the place, or the length of the copy as its value.
 #[no_mangle]
 pub extern "C" fn mdf3_copy(image: &[u8], out: &mut [u8], answer: &mut [u8; 32]) -> u32
     ensures { λ r. ⌜ (r ≡ copyNumber (now (image .entry)) (now (out .entry)))
@@ -103,9 +103,9 @@ pub extern "C" fn mdf3_copy(image: &[u8], out: &mut [u8], answer: &mut [u8; 32])
             *answer = answer_bytes(0, length as u64, 0, 0);
             0
         }
-        Copied::Refused(number, at) => {
+        Copied::Refused(code, at) => {
             *answer = answer_bytes(at as u64, 0, 0, 0);
-            number
+            code
         }
     }
 }

@@ -14,8 +14,9 @@ use Rattle.blocks.proofs.Written.{cn-written}
 use Rattle.write.specs.Write.{Wrote, then, wrote-as, padded}
 use Rattle.answers.specs.Readings.{WellFormedChannel}
 use Rattle.answers.proofs.Laws.{length-cn, length-channel}
+use Rattle.reading.specs.declared.Part.{Part}
 use Rattle.reading.specs.declared.Channel.{Channel}
-use Rattle.reading.specs.Steps.{theChannel, MainIs, AddedIs}
+use Rattle.reading.specs.Steps.{theChannel, FieldsAre}
 use Rattle.put_channels.specs.declared.Bodies.{Bodies}
 use Rattle.put_channels.specs.declared.Places.{Places}
 use Rattle.put_channels.specs.Spans.{spanLength, spanLink, spanBytes}
@@ -108,24 +109,23 @@ module _ (image : List ℕ) (at : ℕ) (b : Bodies) (p : Places) (q : PlacesAre 
       (q .cc) refl
 
 module _ (image : List ℕ) (at : ℕ) (b : Bodies) (p : Places) (x : Channel) (h : BodiesAre image b (theChannel image x)) (q : PlacesAre at b p) where
-  pub block-written : (next cc ce tx long display from held : ℕ)
+  pub block-written : (next cc ce tx long display : ℕ) (r : Part)
       → cc ≡ spanLink (p .cc) (b .conversion)
       → ce ≡ spanLink (p .ce) (b .extension)
       → tx ≡ spanLink (p .tx) (b .comment)
       → long ≡ spanLink (p .long) (b .long)
       → display ≡ spanLink (p .display) (b .display)
-      → MainIs image x from
-      → AddedIs image x (x .cn .at + 226) held
-      → cnBytes next cc ce tx (take 194 (drop from image)) long display (padded image (from + 202) held 2) ≡ blockAs at next (theChannel image x)
+      → FieldsAre image x r
+      → cnBytes next cc ce tx (take 194 (drop (r .from) image)) long display (padded image (r .from + 202) (r .held) 2) ≡ blockAs at next (theChannel image x)
   unfolding blockAs padded
-  block-written next cc ce tx long display from held e₁ e₂ e₃ e₄ e₅ m d =
+  block-written next cc ce tx long display t e₁ e₂ e₃ e₄ e₅ m =
       let r = places-by image b (theChannel image x) h at p q in
       let f₁ = e₁ ∙ span-link image (p .cc) (b .conversion) (h .conversion) in
       let f₂ = e₂ ∙ span-link image (p .ce) (b .extension) (h .extension) in
       let f₃ = e₃ ∙ span-link image (p .tx) (b .comment) (h .comment) in
       let f₄ = e₄ ∙ span-link image (p .long) (b .long) (h .long) in
       let f₅ = e₅ ∙ span-link image (p .display) (b .display) (h .display) in
-      rw (f₁, f₂, f₃, f₄, f₅, q .cc, r .ce, r .tx, r .long, r .display, m .place, sym (m .is), sym (d .is))
+      rw (f₁, f₂, f₃, f₄, f₅, q .cc, r .ce, r .tx, r .long, r .display, sym (m .main), sym (m .added))
 
 pub block-length : (size at next : ℕ) (c : ReadChannel) → WellFormedChannel size c → length (blockAs at next c) ≡ 228
 unfolding blockAs

@@ -35,7 +35,7 @@ capped-exact {r} {n} c l = go (leb n 2147483647) refl
     go true e = c .exact (leb-true n 2147483647 e)
     go false e = absurd (omega (arith, c .over (leb-false n 2147483647 e)))
 
--- one that is not told exactly is not above what it stands for
+-- one that is not exact is not above what it stands for
 pub capped-least : {r n : ℕ} → Capped r n → r ≤ 2147483648 → r ≤ n
 capped-least {r} {n} c l = go (leb n 2147483647) refl
   where

@@ -16,7 +16,7 @@ ghost use Rattle.put_groups.specs.Groups.{linkIf, headsAs, groupAs, Know
 
 // ---- a group
 
-// The length of a group. One above the longest copy is not told exactly.
+// The length of a group. Above the longest copy it is not exact.
 fn group_length(image: &[u8], g: Group) -> usize
     requires { ⌜ AtGroup (now image) g ⌝ }
     ensures { λ r. ⌜ Capped r (groupLength (theGroup (now (image .entry)) g)) × (58 ≤ r) × (r ≤ 2147483648) ⌝ }

@@ -1,4 +1,4 @@
-pub mod Bodies
-pub mod Later
+mod Bodies
+mod Later
 pub mod Numbers
 pub mod Promise

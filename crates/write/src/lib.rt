@@ -24,12 +24,12 @@ pub fn put_all(out: &mut [u8], at: usize, src: &[u8])
     put_part(out, at, src, 0, src.len());
 }
 
-pub fn put_zeros(out: &mut [u8], at: usize, len: usize)
-    requires { ⌜ at + len ≤ length (now out) ⌝ }
-    ensures { λ _. ⌜ Wrote (now (out .entry)) (now (out .exit)) at (replicate len 0) ⌝ }
+pub fn put_zeros(out: &mut [u8], at: usize, n: usize)
+    requires { ⌜ at + n ≤ length (now out) ⌝ }
+    ensures { λ _. ⌜ Wrote (now (out .entry)) (now (out .exit)) at (replicate n 0) ⌝ }
 {
     let mut i: usize = 0;
-    while i < len {
+    while i < n {
         out[at + i] = 0;
         i += 1;
     }

@@ -8,6 +8,9 @@ use Rattle.copy.proofs.put_front.Tie as tie
 put-part-requires : tie.Need-put-part-requires
 put-part-requires c κs = (omega (arith, c .before .before .before .pre .3), omega (arith, file-long _ _ (c .before .before .before .pre .0)))
 
+fields-requires : tie.Need-fields-requires
+fields-requires c κs = search needs
+
 link-if-requires : tie.Need-link-if-requires
 link-if-requires c κs = search needs
 
@@ -17,12 +20,6 @@ body-link-requires c κs = search needs
 body-link-requires-2 : tie.Need-body-link-requires-2
 body-link-requires-2 c κs = search needs
 
-plain-requires : tie.Need-plain-requires
-plain-requires c κs = search needs
-
-later-requires : tie.Need-later-requires
-later-requires c κs = search needs
-
 put-hd-requires : tie.Need-put-hd-requires
 put-hd-requires c κs = search needs
 
@@ -31,20 +28,19 @@ same-length c = search needs
 
 returns : tie.Need-returns
 returns c =
-    let a = c .before .before .before .before .before .before .before .before .before .before .before .before .before .before .before .args in
-    let p = c .before .before .before .before .before .before .before .before .before .before .before .before .before .before .before .pre in
-    front-written (a .image .now) (a .f) (p .0) (header-as (a .image .now) (a .front) (p .1) (a .f) _ _ _ _ _ _ (c .before .before .before .before .before .before .before .before .link-if .ensures) (c .before .before .before .before .before .before .before .body-link .ensures) (c .before .before .before .before .before .before .body-link2 .ensures) (p .2) (c .before .before .before .before .plain .ensures) (c .before .before .before .later .ensures)) (c .before .before .before .before .before .before .before .before .before .before .before .put-part .ensures) (c .before .before .put-hd .ensures)
+    let a = c .before .before .before .before .before .before .before .before .before .before .before .before .before .before .args in
+    let p = c .before .before .before .before .before .before .before .before .before .before .before .before .before .before .pre in
+    front-written (a .image .now) (a .f) (p .0) (header-as (a .image .now) (a .front) (p .1) _ _ _ _ _ (c .before .before .before .before .before .before .link-if .ensures) (c .before .before .before .before .before .body-link .ensures) (c .before .before .before .before .body-link2 .ensures) (p .2) (c .before .before .before .before .before .before .before .fields .ensures)) (c .before .before .before .before .before .before .before .before .before .before .put-part .ensures) (c .before .before .put-hd .ensures)
 
 pub put-front-spec : {M : Type 1} → statement M
 put-front-spec =
     tie.close
     (tie.spec
     put-part-requires
+    fields-requires
     link-if-requires
     body-link-requires
     body-link-requires-2
-    plain-requires
-    later-requires
     put-hd-requires
     same-length
     returns)

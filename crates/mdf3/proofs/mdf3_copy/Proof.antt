@@ -15,8 +15,8 @@ enum-known-length c = search needs
 answer-bytes-requires : tie.Need-answer-bytes-requires
 answer-bytes-requires c κs = search needs
 
-enum-known-number : tie.Need-enum-known-number
-enum-known-number c = search needs
+enum-known-code : tie.Need-enum-known-code
+enum-known-code c = search needs
 
 answer-bytes-requires-2 : tie.Need-answer-bytes-requires-2
 answer-bytes-requires-2 c κs = search needs
@@ -34,7 +34,7 @@ same-length-2 c = search needs
 
 returns-2 : tie.Need-returns-2
 returns-2 c =
-    let a = copy-answered (c .before .before .before .before .before .before .before .before .before .before .args .image .now) (c .before .before .before .before .before .before .before .before .before .before .args .out .now) (Refused (c .before .before .number .given .0 .0) (c .before .before .number .given .0 .1 .0)) (ap outcome (sym (c .before .before .number .given .1)) ∙ c .before .before .before .before .before .before .copy .ensures .0) in
+    let a = copy-answered (c .before .before .before .before .before .before .before .before .before .before .args .image .now) (c .before .before .before .before .before .before .before .before .before .before .args .out .now) (Refused (c .before .before .code .given .0 .0) (c .before .before .code .given .0 .1 .0)) (ap outcome (sym (c .before .before .code .given .1)) ∙ c .before .before .before .before .before .before .copy .ensures .0) in
     (a .0, c .answer-bytes2 .ensures ∙ a .1, c .before .before .before .before .before .before .copy .ensures .1)
 
 pub mdf3-copy-spec : {M : Type 1} → statement M
@@ -44,7 +44,7 @@ mdf3-copy-spec =
     copy-requires
     enum-known-length
     answer-bytes-requires
-    enum-known-number
+    enum-known-code
     answer-bytes-requires-2
     same-length
     returns

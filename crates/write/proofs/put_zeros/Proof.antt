@@ -39,7 +39,7 @@ same-length c = search needs
 
 returns : tie.Need-returns Inv-loop μ-loop
 returns c =
-    let done : c .before .loop .i ≡ c .before .before .args .len = omega arith in
+    let done : c .before .loop .i ≡ c .before .before .args .n = omega arith in
     record { is = c .before .loop .inv .2 ∙ rw done }
 
 pub put-zeros-spec : {M : Type 1} → statement M
