@@ -15,7 +15,8 @@
  *     and that nobody else uses before the call returns. out_len is at most
  *     SIZE_MAX / 2. Where it is 0 nothing is read or written through out;
  *     it may point anywhere, and must not be NULL.
- *   - answer points to 32 bytes that can be written.
+ *   - answer points to 32 bytes that can be written, and that nobody else
+ *     uses before the call returns.
  *   - image, out and answer do not overlap each other.
  * Less than 16 KB of stack is used.
  *

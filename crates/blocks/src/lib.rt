@@ -1,4 +1,8 @@
 // Writes blocks over a lent slice, from a place on. A number is written by its low bytes.
+use image::Cg;
+use image::Cn;
+use image::Dg;
+use image::Hd;
 ghost use mathlib.Core.Path.{_≡_};
 ghost use Prim.Native.Nat.{_+_, _-_, _≤_};
 ghost use lib.ListN.{length, take, drop};
@@ -11,10 +15,10 @@ fn dg(next: usize, group: usize, records: usize) -> [u8; 28]
     ensures { λ r. ⌜ r ≡ dgParts next group records ⌝ }
 {
     [
-        68,
-        71,
-        28,
-        0,
+        (Dg::ID % 256) as u8,
+        (Dg::ID / 256) as u8,
+        (Dg::WRITTEN % 256) as u8,
+        (Dg::WRITTEN / 256) as u8,
         (next % 256) as u8,
         (next / 256 % 256) as u8,
         (next / 256 / 256 % 256) as u8,
@@ -54,10 +58,10 @@ fn cg(first: usize, comment: usize, channels: usize, size: usize, count: usize) 
     ensures { λ r. ⌜ r ≡ cgParts first comment channels size count ⌝ }
 {
     [
-        67,
-        71,
-        30,
-        0,
+        (Cg::ID % 256) as u8,
+        (Cg::ID / 256) as u8,
+        (Cg::WRITTEN % 256) as u8,
+        (Cg::WRITTEN / 256) as u8,
         0,
         0,
         0,
@@ -110,10 +114,10 @@ fn put_cn_head(out: &mut [u8], at: usize, next: usize, cc: usize, ce: usize, com
     ensures { λ _. ⌜ Wrote (now (out .entry)) (now (out .exit)) at (cnHead next cc ce comment) ⌝ }
 {
     let head: [u8; 24] = [
-        67,
-        78,
-        228,
-        0,
+        (Cn::ID % 256) as u8,
+        (Cn::ID / 256) as u8,
+        (Cn::WRITTEN % 256) as u8,
+        (Cn::WRITTEN / 256) as u8,
         (next % 256) as u8,
         (next / 256 % 256) as u8,
         (next / 256 / 256 % 256) as u8,
@@ -191,8 +195,8 @@ fn put_hd_head(
     ensures { λ _. ⌜ Wrote (now (out .entry)) (now (out .exit)) at (hdHead size first comment program groups) ⌝ }
 {
     let head: [u8; 18] = [
-        72,
-        68,
+        (Hd::ID % 256) as u8,
+        (Hd::ID / 256) as u8,
         (size % 256) as u8,
         (size / 256 % 256) as u8,
         (first % 256) as u8,

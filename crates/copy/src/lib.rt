@@ -103,6 +103,7 @@ fn put_file(out: &mut [u8], image: &[u8], f: File, count: usize)
     put_front(out, image, f, front, count);
     let comment = front.comment;
     let program = front.program;
+    // TX, then PR
     put_channels::put_body(out, front.tx, image, comment, 84, 88);
     put_channels::put_body(out, front.pr, image, program, 80, 82);
     put_groups::put_groups(out, front.first, image, f.groups(image));

@@ -157,7 +157,7 @@ fn put_channel_block(
     );
 }
 
-// The bodies of a channel at their places.
+// The bodies of a channel at their places: CC, CE and three TX.
 fn put_bodies(out: &mut [u8], at: usize, image: &[u8], b: Bodies, p: Places)
     requires { ⌜ BodiesInside (now image) b × PlacesAre at b p × (p .end ≤ length (now out)) ⌝ }
     ensures { λ _. ⌜ Wrote (now (out .entry)) (now (out .exit)) (at + 228) (bodiesBytes (now (image .entry)) b) ⌝ }
