@@ -9,3 +9,5 @@ pub mod ChannelCursors
 pub mod Logs
 pub mod RecordCursors
 pub mod SizeTables
+pub mod Rows
+pub mod Asking

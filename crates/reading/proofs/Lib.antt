@@ -2,3 +2,5 @@ mod Bodies
 mod Later
 pub mod Numbers
 pub mod Promise
+mod Rows
+mod Seeking
