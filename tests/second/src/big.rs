@@ -1,12 +1,16 @@
-//! Images and copies at the greatest length, and empty parts of memory.
+//! Images and copies at the greatest length, samples far behind, and empty
+//! parts of memory.
 
 use crate::compare::{self, compare, shown, Answer, Difference, Wanted};
 use crate::output::Output;
 use crate::tally::Tally;
 use crate::{library, report, Options};
 use second::canonical;
+use second::make::cases::Known;
 use second::make::long::with_copy_of;
 use second::make::sheet::Sheet;
+use second::make::signals::{Signal, Signals};
+use second::sample::{self, Asked, Call};
 use std::ptr::NonNull;
 
 const LONGEST: usize = 2_147_483_647;
@@ -38,9 +42,21 @@ struct Long<'a> {
 impl Long<'_> {
     /// Puts a small file at the start and tries the first `length` bytes.
     fn try_at(&mut self, name: &str, file: &[u8], length: usize, expected: Answer) {
+        self.try_known(name, file, length, expected, &[]);
+    }
+
+    /// The same, with samples that are known beforehand.
+    fn try_known(
+        &mut self,
+        name: &str,
+        file: &[u8],
+        length: usize,
+        expected: Answer,
+        known: &[Known],
+    ) {
         self.bytes[..file.len()].copy_from_slice(file);
         let name = format!("{name}, {length} bytes");
-        let wanted = Wanted { check: Some(expected), ..Wanted::default() };
+        let wanted = Wanted { check: Some(expected), known, ..Wanted::default() };
         let image = &self.bytes[..length];
         if let Err(difference) = compare(image, &wanted, &mut self.output, self.tally) {
             // Only the written start is kept; the rest is zeros.
@@ -103,6 +119,31 @@ fn last_bytes(long: &mut Long<'_>) {
     long.bytes[LONGEST - 4..LONGEST].fill(0);
 }
 
+/// A number and a text in the last three records, of two bytes each.
+fn last_samples(long: &mut Long<'_>) {
+    let mut file = Signals::new(2);
+    file.channel(Signal { start: 4, bits: 8, data_type: 9, offset: 0 });
+    file.channel(Signal { start: 0, bits: 8, data_type: 7, offset: 1 });
+    file.records(&[0; 6]);
+    file.sheet.put32(file.dg + 16, LONGEST as u32 - 6);
+    long.bytes[LONGEST - 2..LONGEST].copy_from_slice(&[0x34, 0x12]);
+    let known = |call, channel, answer| {
+        let asked = Asked { group: 0, channel, record: 2 };
+        Known { call, asked, answer }
+    };
+    let list = [
+        known(Call::Sample, 0, sample::Answer::done(1, 0x41, 0)),
+        known(Call::Sample, 1, sample::Answer::done(5, LONGEST as u64 - 1, 1)),
+        known(Call::Physical, 0, sample::Answer::done(4, 65.0_f64.to_bits(), 0)),
+        known(Call::Physical, 1, sample::Answer::refused(16, 0)),
+    ];
+    long.try_known("samples at the end", &file.sheet.bytes, LONGEST, (0, 0), &list);
+    let list =
+        [Call::Sample, Call::Physical].map(|call| known(call, 0, sample::Answer::refused(1, 0)));
+    long.try_known("samples, too long", &file.sheet.bytes, LONGEST + 1, (1, 0), &list);
+    long.bytes[LONGEST - 2..LONGEST].fill(0);
+}
+
 /// 1,024 data groups that each take the whole long image for their records:
 /// a copy of more than 2 million million bytes.
 fn longest_copy(long: &mut Long<'_>) {
@@ -125,6 +166,7 @@ fn long_images(options: &Options, tally: &mut Tally) -> bool {
     let mut long = Long { bytes, options, output: Output::default(), tally, right: true };
     lengths(&mut long);
     last_bytes(&mut long);
+    last_samples(&mut long);
     longest_copy(&mut long);
     long.right
 }
@@ -146,6 +188,15 @@ fn empty_memory(tally: &mut Tally) -> Result<(), Difference> {
             return Err(Difference::new("library's copy", format!("{library:?}")));
         }
         tally.note_copy(number);
+    }
+    let asked = Asked { group: 0, channel: 0, record: 0 };
+    let wanted = sample::Answer::refused(2, 0);
+    for call in [Call::Sample, Call::Physical] {
+        let library = library::ask(call, nowhere, 0, asked);
+        if library != Ok(wanted) {
+            return Err(Difference::new("library's sample", format!("{library:?}")));
+        }
+        tally.note_asked(call, wanted);
     }
     Ok(())
 }

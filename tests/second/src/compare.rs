@@ -2,9 +2,10 @@
 
 use crate::library;
 use crate::output::Output;
+use crate::sampling;
 use crate::tally::Tally;
 use second::canonical;
-use second::make::cases::Told;
+use second::make::cases::{Known, Told};
 use second::mdf::{self, Refusal};
 use second::reading::Reading;
 
@@ -32,6 +33,13 @@ pub fn length_of(found: &Result<Found<'_>, Refusal>) -> Result<u64, Refusal> {
     found.as_ref().map(|found| found.length).map_err(|refusal| *refusal)
 }
 
+/// The reading, or why the image is refused.
+pub fn reading_of<'f, 'a>(
+    found: &'f Result<Found<'a>, Refusal>,
+) -> Result<&'f Reading<'a>, Refusal> {
+    found.as_ref().map(|found| &found.reading).map_err(|refusal| *refusal)
+}
+
 /// What is known of an image beforehand.
 #[derive(Default)]
 pub struct Wanted<'a> {
@@ -39,6 +47,7 @@ pub struct Wanted<'a> {
     pub length: Option<u64>,
     pub copy: Option<&'a [u8]>,
     pub told: &'a [Told],
+    pub known: &'a [Known],
 }
 
 /// What was answered when the answers differ.
@@ -64,8 +73,8 @@ fn shown_copy(answer: &Result<canonical::Answer, String>) -> String {
     }
 }
 
-/// Compares check and copies of an image with each other and with what is
-/// known of it.
+/// Compares check, copies and samples of an image with each other and with
+/// what is known of it.
 pub fn compare(
     image: &[u8],
     wanted: &Wanted<'_>,
@@ -93,7 +102,7 @@ pub fn compare(
         let answer = compare_answer(image, length, output, tally)?;
         compare_output(output, answer, copy.as_deref())?;
     }
-    Ok(())
+    sampling::compare(image, reading_of(&found), wanted.known, tally)
 }
 
 fn compare_check(

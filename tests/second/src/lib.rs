@@ -1,7 +1,8 @@
-//! A second MDF 3 file check and canonical copy, and the images to try them
-//! on.
+//! A second MDF 3 file check, canonical copy and sample, and the images to
+//! try them on.
 
 pub mod canonical;
 pub mod make;
 pub mod mdf;
 pub mod reading;
+pub mod sample;

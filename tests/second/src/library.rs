@@ -2,15 +2,18 @@
 
 use crate::compare::Answer;
 use second::canonical;
+use second::sample::{self, Asked, Call};
 
 const FILL: u8 = 0xA5;
 const MARGIN: usize = 32;
 const ANSWER_SIZE: usize = 32;
 
-#[cfg(not(feature = "selfcheck"))]
-pub const NAME: &str = "linked mdf3";
 #[cfg(feature = "selfcheck")]
 pub const NAME: &str = "none, the second implementation checks itself";
+#[cfg(all(feature = "samples", not(feature = "selfcheck")))]
+pub const NAME: &str = "linked mdf3";
+#[cfg(not(any(feature = "samples", feature = "selfcheck")))]
+pub const NAME: &str = "linked mdf3; for samples the second implementation checks itself";
 
 #[cfg(not(feature = "selfcheck"))]
 extern "C" {
@@ -24,16 +27,47 @@ extern "C" {
     ) -> u32;
 }
 
+#[cfg(all(feature = "samples", not(feature = "selfcheck")))]
+extern "C" {
+    fn mdf3_sample(
+        image: *const u8,
+        image_len: usize,
+        group: u64,
+        channel: u64,
+        record: u64,
+        answer: *mut u8,
+    ) -> u32;
+    fn mdf3_physical(
+        image: *const u8,
+        image_len: usize,
+        group: u64,
+        channel: u64,
+        record: u64,
+        answer: *mut u8,
+    ) -> u32;
+}
+
 #[cfg(feature = "selfcheck")]
 use stand_in::{mdf3_check, mdf3_copy};
+#[cfg(any(feature = "selfcheck", not(feature = "samples")))]
+use stand_in::{mdf3_physical, mdf3_sample};
 
 /// Stands in for the library: the second implementation behind the same calls.
-#[cfg(feature = "selfcheck")]
+#[cfg(any(feature = "selfcheck", not(feature = "samples")))]
 mod stand_in {
     use crate::compare;
+    #[cfg(feature = "selfcheck")]
     use second::canonical;
+    use second::sample::{self, Asked, Call};
     use std::slice::{from_raw_parts, from_raw_parts_mut};
 
+    fn write(parts: [u64; 4], answer: &mut [u8]) {
+        for (bytes, part) in answer.chunks_exact_mut(8).zip(parts) {
+            bytes.copy_from_slice(&part.to_le_bytes());
+        }
+    }
+
+    #[cfg(feature = "selfcheck")]
     pub unsafe fn mdf3_check(image: *const u8, image_len: usize, answer: *mut u8) -> u32 {
         // SAFETY: as for the library, the caller lends both parts of memory.
         let (image, answer) =
@@ -42,11 +76,11 @@ mod stand_in {
             Ok(_) => (0, 0),
             Err(refusal) => (refusal.number, refusal.place),
         };
-        answer.fill(0);
-        answer[..8].copy_from_slice(&place.to_le_bytes());
+        write([place, 0, 0, 0], answer);
         number
     }
 
+    #[cfg(feature = "selfcheck")]
     pub unsafe fn mdf3_copy(
         image: *const u8,
         image_len: usize,
@@ -71,10 +105,43 @@ mod stand_in {
                 end += piece.len();
             });
         }
-        answer.fill(0);
-        answer[..8].copy_from_slice(&told.place.to_le_bytes());
-        answer[8..16].copy_from_slice(&told.value.to_le_bytes());
+        write([told.place, told.value, 0, 0], answer);
         told.number
+    }
+
+    unsafe fn ask(call: Call, image: (*const u8, usize), asked: Asked, answer: *mut u8) -> u32 {
+        // SAFETY: as for the library, the caller lends both parts of memory.
+        let (image, answer) =
+            unsafe { (from_raw_parts(image.0, image.1), from_raw_parts_mut(answer, 32)) };
+        let told = sample::answer(call, compare::reading_of(&compare::find(image)), asked);
+        write([told.place, told.value, told.length, told.kind], answer);
+        told.number
+    }
+
+    pub unsafe fn mdf3_sample(
+        image: *const u8,
+        image_len: usize,
+        group: u64,
+        channel: u64,
+        record: u64,
+        answer: *mut u8,
+    ) -> u32 {
+        let asked = Asked { group, channel, record };
+        // SAFETY: passed on.
+        unsafe { ask(Call::Sample, (image, image_len), asked, answer) }
+    }
+
+    pub unsafe fn mdf3_physical(
+        image: *const u8,
+        image_len: usize,
+        group: u64,
+        channel: u64,
+        record: u64,
+        answer: *mut u8,
+    ) -> u32 {
+        let asked = Asked { group, channel, record };
+        // SAFETY: passed on.
+        unsafe { ask(Call::Physical, (image, image_len), asked, answer) }
     }
 }
 
@@ -119,4 +186,23 @@ pub fn copy(
         [place, value, 0, 0] => Ok(canonical::Answer { number, place, value }),
         _ => Err(format!("number {number}, answer {parts:?}")),
     }
+}
+
+/// Calls for a sample or a physical value, and looks at all it wrote.
+pub fn ask(
+    call: Call,
+    image: *const u8,
+    length: usize,
+    asked: Asked,
+) -> Result<sample::Answer, String> {
+    let Asked { group, channel, record } = asked;
+    // SAFETY: the image is `length` bytes long and the answer has 32 bytes.
+    let (number, parts) = with_answer(|answer| unsafe {
+        match call {
+            Call::Sample => mdf3_sample(image, length, group, channel, record, answer),
+            Call::Physical => mdf3_physical(image, length, group, channel, record, answer),
+        }
+    })?;
+    let [place, value, length, kind] = parts;
+    Ok(sample::Answer { number, place, value, length, kind })
 }

@@ -1,6 +1,8 @@
-//! Compares the library's check and copy with the second implementation.
+//! Compares the library's check, copy, sample and physical value with the
+//! second implementation.
 //!
-//! Named cases first, then random images, then very long images and copies.
+//! Named cases first, then random images, then random images made for their
+//! samples, then very long images and copies.
 //! Exit code 0 when all answers agree, 1 at a difference, 2 for wrong
 //! options.
 
@@ -8,11 +10,12 @@ mod big;
 mod compare;
 mod library;
 mod output;
+mod sampling;
 mod tally;
 
 use compare::{Difference, Wanted};
 use output::Output;
-use second::make::{self, cases};
+use second::make::{self, cases, signals, Drawn};
 use std::path::PathBuf;
 use std::process::ExitCode;
 use std::sync::atomic::{AtomicBool, Ordering};
@@ -61,6 +64,7 @@ fn run_named(options: &Options) -> Option<Tally> {
             length: case.length,
             copy: case.copy.as_deref(),
             told: &case.told,
+            known: &case.known,
         };
         let compared = compare::compare(&case.image, &wanted, &mut output, &mut tally);
         if let Err(difference) = compared {
@@ -75,11 +79,7 @@ fn run_named(options: &Options) -> Option<Tally> {
 }
 
 /// One random image, and its kin.
-fn run_drawn(
-    drawn: &make::Drawn,
-    output: &mut Output,
-    tally: &mut Tally,
-) -> Result<(), Difference> {
+fn run_drawn(drawn: &Drawn, output: &mut Output, tally: &mut Tally) -> Result<(), Difference> {
     let check = drawn.valid.then_some((0, 0));
     compare::compare(&drawn.image, &Wanted { check, ..Wanted::default() }, output, tally)?;
     if let Some(kin) = &drawn.kin {
@@ -88,15 +88,24 @@ fn run_drawn(
     Ok(())
 }
 
+/// Random images: what they are called, how many, and how one is drawn from
+/// seed and index.
+#[derive(Clone, Copy)]
+struct Series {
+    name: &'static str,
+    count: u64,
+    draw: fn(u64, u64) -> Drawn,
+}
+
 /// Every `WORKERS`th image from `first` on; stops at a difference.
-fn run_share(options: &Options, first: u64, stop: &AtomicBool) -> Tally {
+fn run_share(options: &Options, series: Series, first: u64, stop: &AtomicBool) -> Tally {
     let mut tally = Tally::default();
     let mut output = Output::default();
     let mut index = first;
-    while index < options.count && !stop.load(Ordering::Relaxed) {
-        let drawn = make::draw(options.seed, index);
+    while index < series.count && !stop.load(Ordering::Relaxed) {
+        let drawn = (series.draw)(options.seed, index);
         if let Err(difference) = run_drawn(&drawn, &mut output, &mut tally) {
-            let name = format!("seed {} index {index}", options.seed);
+            let name = format!("{}, seed {} index {index}", series.name, options.seed);
             report(options, &name, Some(&drawn.image), &difference);
             stop.store(true, Ordering::Relaxed);
         }
@@ -105,22 +114,33 @@ fn run_share(options: &Options, first: u64, stop: &AtomicBool) -> Tally {
     tally
 }
 
-fn run_random(options: &Options) -> Option<Tally> {
+fn run_series(options: &Options, series: Series) -> Option<Tally> {
     let stop = AtomicBool::new(false);
     let mut total = Tally::default();
     std::thread::scope(|scope| {
         let shares: Vec<_> = (0..WORKERS)
             .map(|first| {
                 let stop = &stop;
-                scope.spawn(move || run_share(options, first, stop))
+                scope.spawn(move || run_share(options, series, first, stop))
             })
             .collect();
         for share in shares {
             total.add(&share.join().expect("a worker broke off"));
         }
     });
-    println!("{} random images, seed {}", options.count, options.seed);
+    println!("{} {}, seed {}", series.count, series.name, options.seed);
     (!stop.load(Ordering::Relaxed)).then_some(total)
+}
+
+fn run_random(options: &Options) -> Option<Tally> {
+    let series = Series { name: "random images", count: options.count, draw: make::draw };
+    run_series(options, series)
+}
+
+/// A quarter as many, since each has many samples.
+fn run_signals(options: &Options) -> Option<Tally> {
+    let count = options.count / 4;
+    run_series(options, Series { name: "images of signals", count, draw: signals::draw })
 }
 
 fn read_options() -> Result<Options, String> {
@@ -151,8 +171,12 @@ fn main() -> ExitCode {
     println!("library: {}", library::NAME);
     let mut total = Tally::default();
     type Part = fn(&Options) -> Option<Tally>;
-    let parts: [(&str, Part); 3] =
-        [("named", run_named), ("random", run_random), ("long", big::run)];
+    let parts: [(&str, Part); 4] = [
+        ("named", run_named),
+        ("random", run_random),
+        ("signals", run_signals),
+        ("long", big::run),
+    ];
     for (label, part) in parts {
         let begin = Instant::now();
         let Some(tally) = part(&options) else {

@@ -1,11 +1,13 @@
-//! Images to try check and copy on: random valid files, damaged ones, and
-//! named cases with their expected answers. All of it is repeatable.
+//! Images to try check, copy and sample on: random valid files, damaged
+//! ones, and named cases with their expected answers. All of it is
+//! repeatable.
 
 pub mod cases;
 pub mod long;
 pub mod mutate;
 pub mod rng;
 pub mod sheet;
+pub mod signals;
 pub mod valid;
 
 use rng::Rng;

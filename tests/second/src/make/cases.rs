@@ -6,10 +6,13 @@ mod lengths;
 mod limits;
 mod opening;
 mod order;
+mod physical;
 mod records;
+mod samples;
 mod start;
 
 use super::sheet::Sheet;
+use crate::sample::{Answer, Asked, Call};
 
 pub struct Case {
     pub name: String,
@@ -22,6 +25,8 @@ pub struct Case {
     pub copy: Option<Vec<u8>>,
     /// Answers to a copy that are known beforehand.
     pub told: Vec<Told>,
+    /// Samples and physical values that are known beforehand.
+    pub known: Vec<Known>,
 }
 
 /// What a copy into an output of so many bytes has to answer.
@@ -31,6 +36,14 @@ pub struct Told {
     pub number: u32,
     pub place: u64,
     pub value: u64,
+}
+
+/// What a call for a sample or a physical value has to answer.
+#[derive(Clone, Copy)]
+pub struct Known {
+    pub call: Call,
+    pub asked: Asked,
+    pub answer: Answer,
 }
 
 /// Collects cases.
@@ -46,8 +59,8 @@ impl Book {
 
     fn expect(&mut self, name: impl Into<String>, image: &[u8], number: u32, place: usize) {
         let (name, image, place) = (name.into(), image.to_vec(), place as u64);
-        let (length, copy, told) = (None, None, Vec::new());
-        self.cases.push(Case { name, image, number, place, length, copy, told });
+        let (length, copy, told, known) = (None, None, Vec::new(), Vec::new());
+        self.cases.push(Case { name, image, number, place, length, copy, told, known });
     }
 
     /// An accepted image whose copy has this length.
@@ -67,6 +80,21 @@ impl Book {
         self.last().told.push(Told { room, number, place, value });
     }
 
+    /// What the last image has as a sample: group, channel, record.
+    fn sample(&mut self, asked: [u64; 3], answer: Answer) {
+        self.known(Call::Sample, asked, answer);
+    }
+
+    /// What the last image has as a physical value.
+    fn physical(&mut self, asked: [u64; 3], answer: Answer) {
+        self.known(Call::Physical, asked, answer);
+    }
+
+    fn known(&mut self, call: Call, [group, channel, record]: [u64; 3], answer: Answer) {
+        let asked = Asked { group, channel, record };
+        self.last().known.push(Known { call, asked, answer });
+    }
+
     fn last(&mut self) -> &mut Case {
         self.cases.last_mut().expect("a case has been added")
     }
@@ -83,6 +111,8 @@ pub fn all() -> Vec<Case> {
     order::cases(&mut book);
     copies::cases(&mut book);
     lengths::cases(&mut book);
+    samples::cases(&mut book);
+    physical::cases(&mut book);
     // The sample file has version 200, and no other fault.
     book.expect("sample file", include_bytes!("../../../data/sample000.mdf"), 4, 28);
     book.told(0, 4, 28, 0);
