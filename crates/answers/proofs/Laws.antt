@@ -2,9 +2,9 @@
 -- Assumes nothing.
 pub use Rattle.spec.proofs.Answers.{step, pass, stop, fail}
 pub use Rattle.spec.proofs.Places.{length-body}
-pub use Rattle.spec.proofs.Blocks.{length-dg, length-cg, length-cn, length-hd}
+pub use Rattle.spec.proofs.Blocks.{length-cn, length-hd}
 pub use Rattle.spec.proofs.Channels.{length-channel, length-channels}
-pub use Rattle.spec.proofs.Groups.{length-records, length-group, length-groups}
+pub use Rattle.spec.proofs.Groups.{length-records, length-group}
 pub use Rattle.spec.proofs.Accepted.{accepted-well-formed}
 pub use Rattle.spec.proofs.RoundTrip.{length-canonical}
 pub use Rattle.spec.proofs.Facts.{program-writes-the-copy, program-writes-the-refusal}

@@ -1,4 +1,3 @@
 pub mod Readings
 pub mod Copies
 pub mod Outcomes
-pub mod Samples

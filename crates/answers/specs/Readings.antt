@@ -3,6 +3,6 @@
 pub use Rattle.spec.specs.Bytes.{All, Bytes, bytesOf, join, target}
 pub use Rattle.spec.specs.Answer.{Answer, refused, accepted}
 unfoldable pub use Rattle.spec.specs.Answer.{_>>=_, require}
-pub use Rattle.spec.specs.Block.{Kind, TX, PR, CC, CE, HD-written, DgBlock, CgBlock, CnBlock, HdBlock}
+pub use Rattle.spec.specs.Block.{Kind, TX, PR, CC, CE, HD-written}
 pub use Rattle.spec.specs.Reading.{Body, Channel, Group, Reading, version}
-pub use Rattle.spec.specs.WellFormed.{BodyFits, WellFormedChannel, WellFormedGroup, WellFormed, channelTotal}
+pub use Rattle.spec.specs.WellFormed.{WellFormedChannel, WellFormedGroup, WellFormed}

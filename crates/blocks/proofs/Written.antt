@@ -1,13 +1,12 @@
 -- The bytes of the blocks are those that `spec` has for them.
 -- Assumes nothing.
 use Prim.Native.Nat.{ℕ}
-use mathlib.Core.Path.{_≡_, refl}
-use mathlib.Core.List.{List, append-assoc, append-nil}
-use mathlib.Core.Option.{none, some}
+use mathlib.Core.Path.{_≡_}
+use mathlib.Core.List.{append-assoc, append-nil}
+use mathlib.Core.Option.{none}
 use Rattle.spec.specs.Bytes.{target}
-use Rattle.spec.specs.Block.{Kind, HD-written, DgBlock, writeDg, CgBlock, writeCg, CnBlock, writeCn, HdBlock, writeHd}
-use Rattle.spec.specs.Canonical.{bodyBytes}
-use Rattle.blocks.specs.Blocks.{dgBytes, cgBytes, cnBytes, hdBytes, blockBytes}
+use Rattle.spec.specs.Block.{HD-written, DgBlock, writeDg, CgBlock, writeCg, CnBlock, writeCn, HdBlock, writeHd}
+use Rattle.blocks.specs.Blocks.{dgBytes, cgBytes, cnBytes, hdBytes}
 
 pub dg-written : (dg : DgBlock) → dg .trigger ≡ none → dg .mode ≡ 0
     → writeDg dg ≡ dgBytes (target (dg .next)) (target (dg .firstGroup)) (target (dg .records))
@@ -30,7 +29,3 @@ pub hd-written : (version n : ℕ) (hd : HdBlock)
     ≡ hdBytes (HD-written version) (target (hd .firstGroup)) (target (hd .comment)) (target (hd .program)) n (hd .plain) (hd .later)
 unfolding writeHd hdBytes
 hd-written version n hd = simp (append-assoc, append-nil)
-
-pub body-written : (k : Kind) (bytes : List ℕ) → bodyBytes k (some bytes) ≡ blockBytes (k .first) (k .second) bytes
-unfolding blockBytes
-body-written k bytes = refl

@@ -1,12 +1,12 @@
 -- The front of a copy, and the whole of it.
 -- Assumes nothing.
 use Prim.Native.Nat.{ℕ, _+_, _-_, _≤_, _<_}
-use mathlib.Core.Path.{_≡_, refl, sym, _∙_, ap, ap₂}
-use mathlib.Core.List.{List, [], _∷_, _++_, append-assoc, append-nil}
+use mathlib.Core.Path.{_≡_, refl, sym, _∙_, ap}
+use mathlib.Core.List.{List, [], _++_, append-assoc, append-nil}
 use native.Mathlib.Omega.{arith}
 use lib.ListN.{length, take, drop, length-append}
-use Rattle.answers.specs.Readings.{Bytes, target, TX, PR, Reading, version, HD-written, WellFormed}
-use Rattle.answers.specs.Copies.{bodyLength, bodyBytes, linkTo, linkToFirst, groupsBytes, groupsLength, copyLength, canonicalCopy, hdOf, writeHd}
+use Rattle.answers.specs.Readings.{TX, PR, Reading, version, HD-written, WellFormed}
+use Rattle.answers.specs.Copies.{bodyLength, bodyBytes, groupsBytes, groupsLength, copyLength, canonicalCopy, hdOf, writeHd}
 use Rattle.answers.proofs.Laws.{length-body, length-hd}
 use Rattle.blocks.specs.Blocks.{hdBytes}
 use Rattle.blocks.proofs.Written.{hd-written}
@@ -16,10 +16,10 @@ use borrow.Author.Tests.{lt-ltb, le-ltb}
 use Rattle.reading.specs.declared.Part.{Part}
 use Rattle.reading.specs.declared.File.{File}
 use Rattle.reading.specs.Promise.{imageReading}
-use Rattle.reading.specs.Steps.{AtFile, BodyIs, HeaderIs}
+use Rattle.reading.specs.Steps.{AtFile, HeaderIs}
 use Rattle.reading.proofs.Promise.{file-long, file-ident}
 use Rattle.put_channels.specs.Spans.{spanBytes, spanLink}
-use Rattle.put_channels.proofs.Spans.{span-length, span-link, span-bytes}
+use Rattle.put_channels.proofs.Spans.{span-link, span-bytes}
 use Rattle.put_groups.specs.Groups.{linkIf}
 use Rattle.put_groups.proofs.Groups.{link-if}
 use Rattle.copy.specs.declared.Front.{Front}

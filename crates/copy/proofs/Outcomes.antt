@@ -11,7 +11,7 @@ use native.Mathlib.Omega.{arith}
 use Rattle.put_channels.specs.Channels.{Capped}
 use Rattle.answers.specs.Readings.{Reading, WellFormed, refused, accepted}
 use Rattle.answers.specs.Copies.{copyLength, canonicalCopy}
-use Rattle.answers.specs.Outcomes.{CopyOutcome, outcomeOf, copied, copying, copyOutcome}
+use Rattle.answers.specs.Outcomes.{outcomeOf, copied, copying, copyOutcome}
 use Rattle.answers.proofs.Laws.{step, pass, stop, fail, length-canonical}
 use Rattle.write.specs.Write.{Wrote, wrote-whole}
 use Rattle.reading.specs.Promise.{reads}

@@ -3,7 +3,7 @@
 use Prim.Native.Nat.{ℕ}
 use mathlib.Core.Path.{_≡_, ap}
 use mathlib.Core.List.{List}
-use Rattle.answers.specs.Outcomes.{Outcome, checkOutcome, CopyOutcome, copyOutcome}
+use Rattle.answers.specs.Outcomes.{Outcome, checkOutcome, copyOutcome}
 use Rattle.reading.specs.declared.Access.{Access}
 use Rattle.reading.specs.Steps.{outcome}
 use Rattle.copy.specs.declared.Copied.{Copied}

@@ -4,7 +4,7 @@ use Prim.Native.Nat.{ℕ}
 use mathlib.Core.List.{List, _++_}
 use mathlib.Core.Option.{Option, none, some}
 use Rattle.answers.specs.Readings.{bytesOf}
-use Rattle.answers.specs.Outcomes.{Outcome, checkOutcome, CopyOutcome, copyOutcome}
+use Rattle.answers.specs.Outcomes.{Outcome, checkOutcome, copyOutcome}
 
 -- place, value, length, kind; what does not apply is 0
 abbrev pub answerBytes : ℕ → ℕ → ℕ → ℕ → List ℕ

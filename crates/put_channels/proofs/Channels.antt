@@ -1,6 +1,6 @@
 -- A channel's bodies, their places and its bytes.
 -- Assumes nothing.
-use Prim.Native.Nat.{ℕ, _+_, _≤_, _<_}
+use Prim.Native.Nat.{ℕ, _+_, _≤_}
 use mathlib.Core.Path.{_≡_, refl, sym, _∙_, ap, ap₂}
 use mathlib.Core.List.{List, [], _∷_, _++_, append-assoc, append-nil}
 use mathlib.Core.Option.{Option, some}
@@ -8,7 +8,7 @@ use native.Mathlib.Omega.{arith}
 use lib.ListN.{length, take, drop, length-append}
 use Rattle.answers.specs.Readings.{target, CC, CE, TX, join}
 use Rattle.answers.specs.Readings.{Channel as ReadChannel}
-use Rattle.answers.specs.Copies.{linkTo, bodyLength, bodyBytes, linkToFirst, channelLength, channelBytes, channelsBytes, cnOf}
+use Rattle.answers.specs.Copies.{bodyLength, bodyBytes, linkToFirst, channelLength, channelBytes, channelsBytes, cnOf}
 use Rattle.blocks.specs.Blocks.{cnBytes}
 use Rattle.blocks.proofs.Written.{cn-written}
 use Rattle.write.specs.Write.{Wrote, then, wrote-as, padded}
@@ -19,7 +19,7 @@ use Rattle.reading.specs.declared.Channel.{Channel}
 use Rattle.reading.specs.Steps.{theChannel, FieldsAre}
 use Rattle.put_channels.specs.declared.Bodies.{Bodies}
 use Rattle.put_channels.specs.declared.Places.{Places}
-use Rattle.put_channels.specs.Spans.{spanLength, spanLink, spanBytes}
+use Rattle.put_channels.specs.Spans.{spanLink, spanBytes}
 use Rattle.put_channels.specs.Channels.{BodiesAre, BodiesInside, SmallBodies, PlacesAre, bodiesBytes, blockAs, channelAs}
 use Rattle.put_channels.proofs.Spans.{small-span, span-length, span-link, span-bytes, written-span}
 

@@ -1,9 +1,9 @@
 -- Lengths added up, one part after the other.
 -- Assumes nothing.
-use Prim.Native.Nat.{ℕ, _+_, _≤_, _<_}
-use mathlib.Core.Path.{_≡_, sym, _∙_}
+use Prim.Native.Nat.{ℕ, _≤_, _<_}
+use mathlib.Core.Path.{_≡_}
 use native.Mathlib.Omega.{arith}
-use Rattle.put_channels.specs.Channels.{Capped, SumIs}
+use Rattle.put_channels.specs.Channels.{SumIs}
 
 -- all parts are added
 pub sum-done : (sum count n k : ℕ) → sum ≤ 2147483647 → sum ≡ n → count ≡ k → SumIs (record { length = sum; count = count }) n k

@@ -2,11 +2,11 @@
 -- Assumes nothing.
 use Prim.Native.Nat.{ℕ, _+_, _≤_, _<_}
 use mathlib.Core.Path.{_≡_}
-use mathlib.Core.List.{List, [], _∷_, _++_}
+use mathlib.Core.List.{List, _++_}
 use lib.ListN.{length}
 use Rattle.answers.specs.Readings.{target, CC, CE, TX}
 use Rattle.answers.specs.Readings.{Channel as ReadChannel}
-use Rattle.answers.specs.Copies.{linkTo, bodyLength, bodyBytes, channelLength, channelsLength}
+use Rattle.answers.specs.Copies.{linkTo, bodyLength, bodyBytes}
 use Rattle.blocks.specs.Blocks.{cnBytes}
 use Rattle.reading.specs.Steps.{BodyInside, BodyIs}
 use Rattle.put_channels.specs.declared.Bodies.{Bodies}

@@ -17,10 +17,6 @@ pub record Progress (all out₀ out : List ℕ) (at to : ℕ) (todo : List ℕ) 
 pub start : {all out : List ℕ} {at : ℕ} → Progress all out out at at all
 start = record { done = []; wrote = wrote-none; reached = omega arith; whole = refl }
 
--- what is to come, said in another way
-pub todo-is : {all out₀ out : List ℕ} {at to : ℕ} {t u : List ℕ} → Progress all out₀ out at to t → t ≡ u → Progress all out₀ out at to u
-todo-is f e = rw (← e) f
-
 -- the next part is written
 pub step : {all out₀ out out₁ : List ℕ} {at to : ℕ} {t u : List ℕ} (x : List ℕ) (q : ℕ)
     → Progress all out₀ out at to t → t ≡ x ++ u → Wrote out out₁ to x → q ≡ to + length x → Progress all out₀ out₁ at q u
@@ -48,7 +44,3 @@ pub finish : {all out₀ out : List ℕ} {at to : ℕ} {t : List ℕ} → Progre
 finish {all} f e =
     let w : f .done ≡ all = sym (f .whole ∙ rw (e, append-nil)) in
     (wrote-as (f .wrote) refl w, f .reached ∙ rw w)
-
--- the place reached lies within the whole
-pub to-le : {all out₀ out : List ℕ} {at to : ℕ} {t : List ℕ} → Progress all out₀ out at to t → to ≤ at + length all
-to-le f = let l = ap length (f .whole) in omega (arith, simp length-append at l, f .reached)

@@ -6,7 +6,7 @@ use Prim.Native.Nat.{ℕ, suc, _+_, _-_, _≤_, _<_}
 use native.Mathlib.Nat.{add-zero, zero-add}
 use native.Mathlib.Numerals.{add-one}
 use native.Mathlib.Omega.{arith}
-use lib.ListN.{length, take, drop, set, getD, replicate, length-append, length-take, length-drop, length-replicate, replicate-append-replicate}
+use lib.ListN.{length, take, drop, set, getD, replicate, length-take, length-drop, length-replicate, replicate-append-replicate}
 use lib.Seq.{sets, length-sets, sets-eq, take-suc, getD-drop}
 
 -- `d` with the bytes `bs` stored from the place `at` on
@@ -82,7 +82,3 @@ wrote-whole {d} {d₁} {a} w h = w .is ∙ write-whole d a h
 -- the first `held` bytes from a place on, then zeros up to `len`
 unfoldable pub padded : List ℕ → ℕ → ℕ → ℕ → List ℕ
 padded src from held len = take held (drop from src) ++ replicate (len - held) 0
-
-pub length-padded : (src : List ℕ) (from held len : ℕ) → held ≤ len → held ≤ length src - from → length (padded src from held len) ≡ len
-unfolding padded
-length-padded src from held len h g = simp (length-append, length-take, length-drop, length-replicate) (omega arith)
