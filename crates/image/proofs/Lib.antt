@@ -3,3 +3,4 @@ pub mod Opening
 pub mod Fields
 pub mod Blocks
 pub mod Ident
+pub mod ChannelFields

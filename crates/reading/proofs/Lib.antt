@@ -4,3 +4,4 @@ pub mod Numbers
 pub mod Promise
 mod Rows
 mod Seeking
+mod Signals

@@ -7,11 +7,11 @@ use mathlib.Core.List.{List}
 use native.Mathlib.Omega.{arith}
 use lib.Dec.{leb, eqb}
 use lib.ListN.{length, take, drop, length-drop}
-use lib.Seq.{drop-drop, length-take-le}
+use lib.Seq.{drop-drop}
 use borrow.Author.Tests.{le-leb, lt-leb, eq-eqb, ne-eqb}
-use Rattle.spec.specs.Bytes.{number, field, u16, toLink, isNil}
+use Rattle.spec.specs.Bytes.{number, u16, toLink, isNil}
 use Rattle.spec.specs.Answer.{Answer, refused, accepted, _>>=_, require}
-use Rattle.spec.specs.Block.{Image, CC, opening, Opened, bodyOf, bodyAt, formula, Fields, readFields, channelType, startBit, bitCount, dataType, addedOffset, CnBlock}
+use Rattle.spec.specs.Block.{Image, CC, opening, Opened, bodyOf, bodyAt, formula, Fields, channelType, startBit, bitCount, dataType, addedOffset, CnBlock}
 use Rattle.spec.specs.Walk.{bitsFit, fieldsPass, formulaPasses, conversionAt, channelAt}
 use Rattle.spec.proofs.Answers.{step, pass, stop, fail}
 use Rattle.spec.proofs.Places.{field-in}
@@ -19,8 +19,8 @@ use Rattle.image.specs.declared.Span.{Span}
 use Rattle.image.specs.declared.Block.the-variants.{Shut}
 use Rattle.image.specs.declared.Step.{Step}
 use Rattle.image.specs.declared.Step.the-variants.{Go, Stop}
-use Rattle.image.specs.Spans.{blockOf, blockIn, Holds, stepOf}
-use Rattle.image.proofs.Fields.{block-length, drop-take}
+use Rattle.image.specs.Spans.{blockOf, blockIn, stepOf}
+use Rattle.image.proofs.Fields.{block-length}
 use Rattle.image.proofs.Blocks.{not-nil, Stands, body-shut, body-open}
 use Rattle.walk.specs.Steps.{_then_, bodiesFirst, bodiesLast}
 
@@ -102,34 +102,6 @@ module _ (image : Image) (p l : ℕ) where
           sym (ap stepOf (step _ (body-open CC image (p + 8) l h b s) (step _ (pass _ _ _ t) refl)))
 
 -- ---- fields
-
--- a number of bytes 24 to 217, read from the block
-main-u16 : (off : ℕ) (block : List ℕ) → off + 2 ≤ 194 → 218 ≤ length block → u16 (24 + off) block ≡ u16 off (readFields block .main)
-main-u16 off block o l =
-    let e : 24 + off + 2 ≤ length block = omega arith in
-    let f : length (take 194 (drop 24 block)) ≡ 194 = length-take-le 194 (drop 24 block) (rw length-drop (omega arith)) in
-    ap number
-    (field-in 2 (24 + off) block e
-    ∙ ap (take 2) (sym (drop-drop off 24 block))
-    ∙ sym (drop-take off 2 194 (drop 24 block) o)
-    ∙ sym (field-in 2 off (take 194 (drop 24 block)) (omega (arith, f)))
-    ∙ ap (field 2 off) (sym (field-in 194 24 block (omega arith))))
-
-module _ (image : List ℕ) (cn : Span) (h : Holds 218 image cn) where
-  long : 218 ≤ length (blockIn image cn)
-  long = omega (arith, block-length image cn (h .inside), h .least)
-
-  pub type-is : u16 24 (blockIn image cn) ≡ channelType (readFields (blockIn image cn))
-  type-is = main-u16 0 (blockIn image cn) (omega arith) long
-
-  pub start-is : u16 186 (blockIn image cn) ≡ startBit (readFields (blockIn image cn))
-  start-is = main-u16 162 (blockIn image cn) (omega arith) long
-
-  pub bits-is : u16 188 (blockIn image cn) ≡ bitCount (readFields (blockIn image cn))
-  bits-is = main-u16 164 (blockIn image cn) (omega arith) long
-
-  pub data-is : u16 190 (blockIn image cn) ≡ dataType (readFields (blockIn image cn))
-  data-is = main-u16 166 (blockIn image cn) (omega arith) long
 
 module _ (w : ℕ) (f : Fields) where
   pub bits-none : bitCount f ≡ 0 → true ≡ bitsFit w f

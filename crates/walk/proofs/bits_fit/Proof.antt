@@ -1,6 +1,7 @@
 use Rattle.image.specs.Spans.{blockIn}
 use Rattle.spec.specs.Block.{readFields}
-use Rattle.walk.proofs.Channels.{start-is, bits-is, bits-none, bits-some}
+use Rattle.image.proofs.ChannelFields.{start-is, bits-is}
+use Rattle.walk.proofs.Channels.{bits-none, bits-some}
 use denote.Ref.{now}
 use mathlib.Core.Path.{_≡_, sym, _∙_}
 use borrow.Author.Needs.{needs}

@@ -1,4 +1,5 @@
-use Rattle.walk.proofs.Channels.{type-is, data-is, wrong-type, wrong-bits, wrong-data, fields-good}
+use Rattle.image.proofs.ChannelFields.{type-is, data-is}
+use Rattle.walk.proofs.Channels.{wrong-type, wrong-bits, wrong-data, fields-good}
 use Rattle.image.specs.Spans.{blockIn}
 use Rattle.spec.specs.Block.{readFields}
 use borrow.Author.Tests.{not-true, not-false}
