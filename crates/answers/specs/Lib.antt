@@ -1,3 +1,4 @@
 pub mod Readings
 pub mod Copies
 pub mod Outcomes
+pub mod Samples

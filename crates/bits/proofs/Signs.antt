@@ -1,22 +1,14 @@
 -- Two's complement, by the weight of the highest bit.
 -- Assumes nothing.
-use Prim.Native.Nat.{ℕ, zero, suc, _+_, _-_, _*_, _^_, _≤_, _<_}
+use Prim.Native.Nat.{ℕ, suc, _+_, _-_, _*_, _^_, _≤_, _<_}
 use mathlib.Core.Path.{_≡_, sym, _∙_, ap}
 use native.Mathlib.Omega.{arith}
-use native.Mathlib.Nat.{pow-suc}
+use native.Mathlib.Numerals.{add-one}
 use borrow.Author.Tests.{lt-ltb, le-ltb}
-use lib.IntN.{pos, negsuc, _-ℤ_}
+use lib.IntN.{pos, negsuc, natAbs}
 use lib.Pow.{pow-mono}
-use Rattle.spec.specs.Sample.{signedOf}
-use Rattle.bits.specs.Bits.{twos}
-
-pub twice : (bits : ℕ) → 1 ≤ bits → 2 ^ bits ≡ 2 * 2 ^ (bits - 1)
-twice zero h = absurd (omega arith)
-twice (suc b) h = let e : suc b - 1 ≡ b = omega arith in rw (e, pow-suc) (omega arith)
-
-minus : (n m : ℕ) → n < m → pos n -ℤ pos m ≡ negsuc (m - suc n)
-minus n zero h = absurd (omega arith)
-minus n (suc m) h = simp (lt-ltb _ _ h)
+use Rattle.spec.specs.Sample.{signedOf, twos}
+use Rattle.spec.proofs.Signs.{twice, minus}
 
 -- of the number half = 2 ^ (bits - 1)
 module _ (bits half n : ℕ) (one : 1 ≤ bits) (is : half ≡ 2 ^ (bits - 1)) where
@@ -44,3 +36,9 @@ module _ (bits half n : ℕ) (one : 1 ≤ bits) (is : half ≡ 2 ^ (bits - 1)) w
       let m : 2 ^ bits ≤ 2 ^ 64 = pow-mono {i = bits} {j = 64} w in
       let e : 18446744073709551615 - (2 * half - (n + 1)) ≡ n + (2 ^ 64 - 2 ^ bits) = omega arith in
       simp (le-ltb _ _ g) e
+
+  pub magnitude-low : n < half → n ≡ natAbs (signedOf bits n)
+  magnitude-low h = ap natAbs (signed-low h)
+
+  pub magnitude-high : half ≤ n → n < 2 ^ bits → 2 * half - (n + 1) + 1 ≡ natAbs (signedOf bits n)
+  magnitude-high h l = add-one _ ∙ ap natAbs (signed-high h l)

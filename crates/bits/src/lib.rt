@@ -2,11 +2,11 @@
 ghost use mathlib.Core.Path.{_≡_};
 ghost use mathlib.Core.List.{reverse};
 ghost use Prim.Native.Nat.{_+_, _-_, _*_, _/_, _%_, _^_, _≤_, _<_};
-ghost use lib.IntN.{pos, negsuc};
+ghost use lib.IntN.{pos, negsuc, natAbs};
 ghost use lib.ListN.{length, take, drop};
 ghost use Rattle.spec.specs.Bytes.{number};
-ghost use Rattle.spec.specs.Sample.{numberIn, signedOf};
-ghost use Rattle.bits.specs.Bits.{orderOf, bitsAt, twos};
+ghost use Rattle.spec.specs.Sample.{numberIn, signedOf, twos};
+ghost use Rattle.bits.specs.Bits.{orderOf, bitsAt};
 
 // ---- numbers of bytes
 
@@ -109,6 +109,18 @@ pub fn twos_complement(bits: usize, n: u64) -> u64
     let half = pow2(bits - 1);
     if half <= n {
         return u64::MAX - depth(half, n);
+    }
+    n
+}
+
+// The same number without its sign.
+pub fn magnitude(bits: usize, n: u64) -> u64
+    requires { ⌜ (1 ≤ bits) × (bits ≤ 64) × (n < 2 ^ bits) ⌝ }
+    ensures { λ r. ⌜ r ≡ natAbs (signedOf bits n) ⌝ }
+{
+    let half = pow2(bits - 1);
+    if half <= n {
+        return depth(half, n) + 1;
     }
     n
 }

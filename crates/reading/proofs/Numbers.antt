@@ -1,5 +1,6 @@
--- Small facts on numbers.
+-- Small facts on numbers and parts of lists.
 -- Assumes nothing.
+pub use Rattle.image.proofs.Fields.{drop-take}
 use Prim.Native.Nat.{ℕ, zero, suc, _*_, _≤_, _<_}
 use mathlib.Core.Path.{_≡_}
 use native.Mathlib.Omega.{arith}

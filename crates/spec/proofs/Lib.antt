@@ -11,3 +11,4 @@ pub mod CopyBytes
 pub mod Demand3
 pub mod Examples
 pub mod Facts
+pub mod Signs

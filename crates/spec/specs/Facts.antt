@@ -1,6 +1,6 @@
 -- Further statements about the definitions: what no example can compute, and how calls go together. Proofs: proofs/Facts.antt.
 -- Assumes nothing.
-use Prim.Native.Nat.{ℕ, _<_}
+use Prim.Native.Nat.{ℕ, _^_, _≤_, _<_}
 use mathlib.Core.Path.{_≡_}
 use mathlib.Core.List.{List, [], _∷_}
 use mathlib.Core.Option.{none, some}
@@ -10,7 +10,7 @@ use Rattle.spec.specs.Answer.{accepted}
 use Rattle.spec.specs.Reading.{Reading}
 use Rattle.spec.specs.Walk.{reads}
 use Rattle.spec.specs.Canonical.{copyLength}
-use Rattle.spec.specs.Sample.{part}
+use Rattle.spec.specs.Sample.{part, signedOf, twos}
 use Rattle.spec.specs.Call.{checkOutcome, copyOutcome, sampleOutcome, partOutcome, programOutcome, line, programOutput}
 use Rattle.spec.specs.Demand3.{Copyable, Room}
 use Rattle.spec.specs.Example.{refusal, oneGroup, signal, room}
@@ -35,6 +35,10 @@ IdentIsCarried = (a : List ℕ) (r : Reading) → reads a ≡ accepted r → r .
 abbrev pub PartIsTheSample : Type 0
 PartIsTheSample =
     (a : List ℕ) (group channel row p n : ℕ) → sampleOutcome a group channel row .value ≡ some (part p n) → partOutcome a group channel row ≡ take n (drop p a)
+
+-- 64 bits of two's complement hold the same number as fewer
+abbrev pub TwosComplementKeepsTheNumber : Type 0
+TwosComplementKeepsTheNumber = (bits n : ℕ) → 1 ≤ bits → bits ≤ 64 → n < 2 ^ bits → signedOf 64 (twos bits n) ≡ signedOf bits n
 
 -- the program writes the copy that its function left, or the refusal
 abbrev pub ProgramWritesTheCopy : Type 0

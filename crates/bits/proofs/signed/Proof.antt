@@ -3,7 +3,8 @@ use native.Mathlib.Omega.{arith}
 use lib.IntN.{negsuc}
 use mir.Syntax.{w64}
 use mir.ValLaws.{toZ-ofZ}
-use Rattle.bits.proofs.Signs.{twice, signed-low, signed-high}
+use Rattle.spec.proofs.Signs.{twice}
+use Rattle.bits.proofs.Signs.{signed-low, signed-high}
 use borrow.Author.Needs.{needs}
 use Rattle.bits.proofs.signed.Statement.{statement}
 use Rattle.bits.proofs.signed.Tie as tie

@@ -1,7 +1,8 @@
 use Prim.Native.Nat.{_-_}
 use mathlib.Core.Path.{ap, _∙_}
 use native.Mathlib.Omega.{arith}
-use Rattle.bits.proofs.Signs.{twice, twos-low, twos-high}
+use Rattle.spec.proofs.Signs.{twice}
+use Rattle.bits.proofs.Signs.{twos-low, twos-high}
 use borrow.Author.Needs.{needs}
 use Rattle.bits.proofs.twos_complement.Statement.{statement}
 use Rattle.bits.proofs.twos_complement.Tie as tie

@@ -1,0 +1,4 @@
+mod Rows
+mod Sampling
+mod Storing
+mod Types

@@ -1,0 +1,28 @@
+use Rattle.answers.specs.Samples.{double, bitCount, storedAs}
+use Rattle.stored.proofs.Storing.{untaken, taken, pattern-is, off-byte, other-width, right-width}
+use mathlib.Core.Path.{sym, _∙_, ap}
+use borrow.Author.Needs.{needs}
+use Rattle.stored.proofs.double.Statement.{statement}
+use Rattle.stored.proofs.double.Tie as tie
+
+returns : tie.Need-returns
+unfolding storedAs
+returns c = (λ f x h. untaken _ _ _ (off-byte _ _ _ f x h _ (c .if1 .taken)), tt)
+
+returns-2 : tie.Need-returns-2
+unfolding storedAs
+returns-2 c = (λ f x h. untaken _ _ _ (other-width _ _ _ f x h (c .before .before .if1 .left) 64 (bitCount f) (λ e. c .if2 .taken (h .signal .bits ∙ e))), tt)
+
+raw-requires : tie.Need-raw-requires
+raw-requires c κs = search needs
+
+returns-3 : tie.Need-returns-3
+unfolding storedAs
+returns-3 c = (
+  λ f x h. taken _ _ (right-width _ _ _ f x h (c .before .before .before .if1 .left) 64 (bitCount f) (sym (h .signal .bits) ∙ c .before .if2 .left))
+      (ap (λ n. double n) (c .raw .ensures .0 ∙ pattern-is _ _ _ f x h _)),
+  (tt, tt),
+)
+
+pub double-spec : {M : Type 1} → statement M
+double-spec = tie.close (tie.spec returns returns-2 raw-requires returns-3)
