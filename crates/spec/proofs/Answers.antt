@@ -1,7 +1,7 @@
 -- Laws of answers: what a sequence of steps gives, and what holds of every result that it accepts.
 -- Assumes nothing.
 use Prim.Native.Nat.{ℕ}
-use mathlib.Core.Path.{_≡_, refl, subst}
+use mathlib.Core.Path.{_≡_, refl, sym, subst}
 use mathlib.Core.Bool.{Bool, true, false}
 use native.Mathlib.Omega.{arith}
 use Rattle.spec.specs.Answer.{Answer, refused, accepted, _>>=_, require, atPlace}
@@ -29,6 +29,14 @@ stop f e = rw e
 pub fail : (t : Bool) (n p : ℕ) → t ≡ false → require t n p ≡ refused n p
 unfolding require
 fail t n p e = rw e
+
+-- ---- a test before a step, seen from its answer
+
+pub refuses : {B : Type 0} (t : Bool) (n p : ℕ) (f : Unit {0} → Answer B) → t ≡ false → refused n p ≡ (require t n p >>= f)
+refuses t n p f e = sym (stop f (fail t n p e))
+
+pub admits : {B : Type 0} (t : Bool) (n p : ℕ) (f : Unit {0} → Answer B) {r : Answer B} → t ≡ true → r ≡ f tt → r ≡ (require t n p >>= f)
+admits t n p f e h = sym (step f (pass t n p e) (sym h))
 
 -- ---- whatever is accepted satisfies P
 

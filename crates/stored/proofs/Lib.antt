@@ -1,4 +1,4 @@
 mod Rows
-mod Sampling
+pub mod Sampling
 mod Storing
 mod Types

@@ -1,7 +1,7 @@
 -- A channel in a record of its group: where its bits stand, and its sample.
 -- Assumes nothing.
 use Prim.Native.Nat.{ℕ, _+_, _*_, _≤_}
-use mathlib.Core.Path.{_≡_, refl, sym, _∙_, ap}
+use mathlib.Core.Path.{_≡_, refl, _∙_, ap}
 use mathlib.Core.Bool.{true}
 use mathlib.Core.List.{List}
 use native.Mathlib.Omega.{arith}
@@ -11,7 +11,7 @@ use lib.Seq.{drop-drop}
 use borrow.Author.Tests.{eq-eqb, ne-eqb, leb-true}
 use Rattle.answers.specs.Readings.{Answer, refused}
 use Rattle.answers.specs.Samples.{Fields, Logged, startBit, bitCount, addedOffset, bitsFit, byteOffset, byteCount, Stored, typeOf, storedAs, storedSample}
-use Rattle.answers.proofs.Laws.{step, pass, stop, fail}
+use Rattle.answers.proofs.Laws.{refuses, admits}
 use Rattle.reading.proofs.Numbers.{above, drop-take}
 use Rattle.reading.specs.declared.Signal.{Signal}
 use Rattle.reading.specs.declared.Channel.{Channel}
@@ -52,8 +52,8 @@ module _ (image : List ℕ) (c : Channel) (place size : ℕ) (h : RowAt image c 
 module _ (f : Fields) (field : ℕ) (x : Logged) where
   pub no-bits : bitCount f ≡ 0 → refused 15 field ≡ storedSample f field x
   unfolding storedSample
-  no-bits e = sym (stop _ (fail _ _ _ (rw (eq-eqb (bitCount f) 0 e))))
+  no-bits e = refuses _ _ _ _ (rw (eq-eqb (bitCount f) 0 e))
 
   pub some-bits : {a : Answer Stored} → (bitCount f ≡ 0 → ⊥) → a ≡ storedAs (typeOf f .encoding) (typeOf f .order) f field x → a ≡ storedSample f field x
   unfolding storedSample
-  some-bits d e = e ∙ sym (step _ (pass _ _ _ (rw (ne-eqb (bitCount f) 0 d))) refl)
+  some-bits d e = admits _ _ _ _ (rw (ne-eqb (bitCount f) 0 d)) e

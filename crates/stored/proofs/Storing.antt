@@ -1,27 +1,15 @@
 -- The bits of a channel in a record, and the tests of refusal 15.
 -- Assumes nothing.
 use Prim.Native.Nat.{ℕ, _+_, _/_, _%_, _^_, _≤_, _<_}
-use mathlib.Core.Path.{_≡_, refl, sym, _∙_, ap}
+use mathlib.Core.Path.{_≡_, sym, _∙_, ap}
 use mathlib.Core.Bool.{Bool, true, false, _&&_}
 use mathlib.Core.List.{List}
 use lib.Dec.{leb, eqb}
 use borrow.Author.Tests.{le-leb, lt-leb, eq-eqb, ne-eqb}
-use Rattle.answers.specs.Readings.{refused, accepted, _>>=_, require}
-use Rattle.answers.specs.Samples.{Fields, Logged, bitOffset, bitCount, numberIn, Stored, pattern}
-use Rattle.answers.proofs.Laws.{step, pass, stop, fail}
+use Rattle.answers.specs.Samples.{Fields, Logged, bitOffset, bitCount, numberIn, pattern}
 use Rattle.bits.specs.Bits.{orderOf, bitsAt}
 use Rattle.reading.specs.declared.Signal.{Signal}
 use Rattle.stored.specs.Stored.{BitsOf}
-
--- ---- a sample of any kind: a test, then the sample
-
-pub untaken : (t : Bool) (place : ℕ) (s : Stored) → t ≡ false → refused 15 place ≡ (require t 15 place >>= λ _. accepted s)
-untaken t place s e = sym (stop _ (fail _ _ _ e))
-
-pub taken : (t : Bool) (place : ℕ) {r s : Stored} → t ≡ true → r ≡ s → accepted r ≡ (require t 15 place >>= λ _. accepted s)
-taken t place e i = ap accepted i ∙ sym (step _ (pass _ _ _ e) refl)
-
--- ---- the bits
 
 module _ (image : List ℕ) (at : ℕ) (s : Signal) (f : Fields) (x : Logged) (h : BitsOf image at s f x) where
   pub pattern-is : (big : Bool) → bitsAt big image at (s .bit) (s .bits) ≡ pattern (orderOf big) f (x .content)

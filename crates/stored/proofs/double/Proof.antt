@@ -1,5 +1,7 @@
+use Rattle.answers.specs.Readings.{accepted}
+use Rattle.answers.proofs.Laws.{refuses, admits}
 use Rattle.answers.specs.Samples.{double, bitCount, storedAs}
-use Rattle.stored.proofs.Storing.{untaken, taken, pattern-is, off-byte, other-width, right-width}
+use Rattle.stored.proofs.Storing.{pattern-is, off-byte, other-width, right-width}
 use mathlib.Core.Path.{sym, _∙_, ap}
 use borrow.Author.Needs.{needs}
 use Rattle.stored.proofs.double.Statement.{statement}
@@ -7,11 +9,11 @@ use Rattle.stored.proofs.double.Tie as tie
 
 returns : tie.Need-returns
 unfolding storedAs
-returns c = (λ f x h. untaken _ _ _ (off-byte _ _ _ f x h _ (c .if1 .taken)), tt)
+returns c = (λ f x h. refuses _ _ _ _ (off-byte _ _ _ f x h _ (c .if1 .taken)), tt)
 
 returns-2 : tie.Need-returns-2
 unfolding storedAs
-returns-2 c = (λ f x h. untaken _ _ _ (other-width _ _ _ f x h (c .before .before .if1 .left) 64 (bitCount f) (λ e. c .if2 .taken (h .signal .bits ∙ e))), tt)
+returns-2 c = (λ f x h. refuses _ _ _ _ (other-width _ _ _ f x h (c .before .before .if1 .left) 64 (bitCount f) (λ e. c .if2 .taken (h .signal .bits ∙ e))), tt)
 
 raw-requires : tie.Need-raw-requires
 raw-requires c κs = search needs
@@ -19,8 +21,8 @@ raw-requires c κs = search needs
 returns-3 : tie.Need-returns-3
 unfolding storedAs
 returns-3 c = (
-  λ f x h. taken _ _ (right-width _ _ _ f x h (c .before .before .before .if1 .left) 64 (bitCount f) (sym (h .signal .bits) ∙ c .before .if2 .left))
-      (ap (λ n. double n) (c .raw .ensures .0 ∙ pattern-is _ _ _ f x h _)),
+  λ f x h. admits _ _ _ _ (right-width _ _ _ f x h (c .before .before .before .if1 .left) 64 (bitCount f) (sym (h .signal .bits) ∙ c .before .if2 .left))
+      (ap (λ n. accepted (double n)) (c .raw .ensures .0 ∙ pattern-is _ _ _ f x h _)),
   (tt, tt),
 )
 

@@ -1,5 +1,6 @@
+use Rattle.answers.proofs.Laws.{refuses, admits}
 use Rattle.answers.specs.Samples.{bitCount, storedAs}
-use Rattle.stored.proofs.Storing.{untaken, taken, off-byte, other-width, right-width}
+use Rattle.stored.proofs.Storing.{off-byte, other-width, right-width}
 use Prim.Native.Nat.{_%_}
 use mathlib.Core.Path.{sym, _∙_, ap}
 use native.Mathlib.Omega.{arith}
@@ -8,17 +9,17 @@ use Rattle.stored.proofs.run.Tie as tie
 
 returns : tie.Need-returns
 unfolding storedAs
-returns c = (λ f x h. untaken _ _ _ (off-byte _ _ _ f x h _ (c .if1 .taken)), tt)
+returns c = (λ f x h. refuses _ _ _ _ (off-byte _ _ _ f x h _ (c .if1 .taken)), tt)
 
 returns-2 : tie.Need-returns-2
 unfolding storedAs
-returns-2 c = (λ f x h. untaken _ _ _ (other-width _ _ _ f x h (c .before .before .if1 .left) 0 (bitCount f % 8) (λ e. c .if2 .taken (ap (λ n. n % 8) (h .signal .bits) ∙ e))), tt)
+returns-2 c = (λ f x h. refuses _ _ _ _ (other-width _ _ _ f x h (c .before .before .if1 .left) 0 (bitCount f % 8) (λ e. c .if2 .taken (ap (λ n. n % 8) (h .signal .bits) ∙ e))), tt)
 
 returns-3 : tie.Need-returns-3
 unfolding storedAs
 returns-3 c =
     let room = c .before .before .before .before .before .pre .inside in (
-      λ f x h. taken _ _ (right-width _ _ _ f x h (c .before .before .before .if1 .left) 0 (bitCount f % 8) (sym (ap (λ n. n % 8) (h .signal .bits)) ∙ c .before .if2 .left))
+      λ f x h. admits _ _ _ _ (right-width _ _ _ f x h (c .before .before .before .if1 .left) 0 (bitCount f % 8) (sym (ap (λ n. n % 8) (h .signal .bits)) ∙ c .before .if2 .left))
           (rw (h .place, h .signal .bits)),
       (tt, omega (arith, room)),
     )

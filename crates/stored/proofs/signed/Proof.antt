@@ -1,5 +1,6 @@
+use Rattle.answers.proofs.Laws.{refuses, admits}
 use Rattle.answers.specs.Samples.{storedAs}
-use Rattle.stored.proofs.Storing.{untaken, taken, pattern-is, wide, narrow}
+use Rattle.stored.proofs.Storing.{pattern-is, wide, narrow}
 use mathlib.Core.Path.{_∙_}
 use native.Mathlib.Omega.{arith}
 use borrow.Author.Needs.{needs}
@@ -11,7 +12,7 @@ add-if1 c = search needs
 
 returns : tie.Need-returns
 unfolding storedAs
-returns c = (λ f x h. untaken _ _ _ (wide _ _ _ f x h (c .if1 .taken)), tt)
+returns c = (λ f x h. refuses _ _ _ _ (wide _ _ _ f x h (c .if1 .taken)), tt)
 
 raw-requires : tie.Need-raw-requires
 raw-requires c κs = search needs
@@ -19,7 +20,7 @@ raw-requires c κs = search needs
 returns-2 : tie.Need-returns-2
 unfolding storedAs
 returns-2 c = (
-  λ f x h. taken _ _ (narrow _ _ _ f x h (c .before .if1 .left)) (rw (h .signal .bits, c .raw .ensures .0 ∙ pattern-is _ _ _ f x h _)),
+  λ f x h. admits _ _ _ _ (narrow _ _ _ f x h (c .before .if1 .left)) (rw (h .signal .bits, c .raw .ensures .0 ∙ pattern-is _ _ _ f x h _)),
   ((omega (arith, c .before .before .before .before .pre .some), omega arith, c .raw .ensures .1), tt),
 )
 

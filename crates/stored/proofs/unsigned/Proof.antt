@@ -1,5 +1,7 @@
+use Rattle.answers.specs.Readings.{accepted}
+use Rattle.answers.proofs.Laws.{refuses, admits}
 use Rattle.answers.specs.Samples.{unsigned, storedAs}
-use Rattle.stored.proofs.Storing.{untaken, taken, pattern-is, wide, narrow}
+use Rattle.stored.proofs.Storing.{pattern-is, wide, narrow}
 use mathlib.Core.Path.{_∙_, ap}
 use borrow.Author.Needs.{needs}
 use Rattle.stored.proofs.unsigned.Statement.{statement}
@@ -10,14 +12,14 @@ add-if1 c = search needs
 
 returns : tie.Need-returns
 unfolding storedAs
-returns c = (λ f x h. untaken _ _ _ (wide _ _ _ f x h (c .if1 .taken)), tt)
+returns c = (λ f x h. refuses _ _ _ _ (wide _ _ _ f x h (c .if1 .taken)), tt)
 
 raw-requires : tie.Need-raw-requires
 raw-requires c κs = search needs
 
 returns-2 : tie.Need-returns-2
 unfolding storedAs
-returns-2 c = (λ f x h. taken _ _ (narrow _ _ _ f x h (c .before .if1 .left)) (ap (λ n. unsigned n) (c .raw .ensures .0 ∙ pattern-is _ _ _ f x h _)), (tt, tt))
+returns-2 c = (λ f x h. admits _ _ _ _ (narrow _ _ _ f x h (c .before .if1 .left)) (ap (λ n. accepted (unsigned n)) (c .raw .ensures .0 ∙ pattern-is _ _ _ f x h _)), (tt, tt))
 
 pub unsigned-spec : {M : Type 1} → statement M
 unsigned-spec = tie.close (tie.spec add-if1 returns raw-requires returns-2)
