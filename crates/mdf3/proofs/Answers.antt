@@ -3,12 +3,15 @@
 use Prim.Native.Nat.{ℕ}
 use mathlib.Core.Path.{_≡_, ap}
 use mathlib.Core.List.{List}
-use Rattle.answers.specs.Outcomes.{Outcome, checkOutcome, copyOutcome}
+use lib.Ieee.{Float}
+use Rattle.answers.specs.Readings.{Answer}
+use Rattle.answers.specs.Outcomes.{Outcome, outcomeOf, checkOutcome, copyOutcome}
+use Rattle.answers.specs.Samples.{Stored, sampling, sampleOutcome, physicalOutcome}
 use Rattle.reading.specs.declared.Access.{Access}
 use Rattle.reading.specs.Steps.{outcome}
 use Rattle.copy.specs.declared.Copied.{Copied}
 use Rattle.copy.specs.Copying as copying
-use Rattle.mdf3.specs.Answers.{answerBytes, checkNumber, checkAnswer, lengthAnswer, copyNumber, copyAnswer}
+use Rattle.mdf3.specs.Answers.{answerBytes, checkNumber, checkAnswer, lengthAnswer, copyNumber, copyAnswer, answered, sampleBytes, sampleNumber, sampleAnswer, physicalBytes, physicalNumber, physicalAnswer}
 
 pub check-answered : (image : List ℕ) (v : Access) → outcome v ≡ checkOutcome image → (outcome v .number ≡ checkNumber image) × (answerBytes (outcome v .place) 0 0 0 ≡ checkAnswer image)
 unfolding checkNumber checkAnswer
@@ -17,3 +20,11 @@ check-answered image v e = (ap (λ o. o .number) e, ap (λ o. answerBytes (o .pl
 pub copy-answered : (image out : List ℕ) (v : Copied) → copying.outcome v ≡ copyOutcome image out .given → (copying.outcome v .number ≡ copyNumber image out) × (lengthAnswer (copying.outcome v) ≡ copyAnswer image out)
 unfolding copyNumber copyAnswer
 copy-answered image out v e = (ap (λ (o : Outcome ℕ). o .number) e, ap lengthAnswer e)
+
+pub sample-answered : (image : List ℕ) (group channel row : ℕ) (m : Answer Stored) → m ≡ sampling image group channel row → (outcomeOf m .number ≡ sampleNumber image group channel row) × (answered sampleBytes (outcomeOf m) ≡ sampleAnswer image group channel row)
+unfolding sampleOutcome sampleNumber sampleAnswer
+sample-answered image group channel row m e = (ap (λ (a : Answer Stored). outcomeOf a .number) e, ap (λ (a : Answer Stored). answered sampleBytes (outcomeOf a)) e)
+
+pub physical-answered : (image : List ℕ) (group channel row : ℕ) (o : Outcome Float) → o ≡ physicalOutcome image group channel row → (o .number ≡ physicalNumber image group channel row) × (answered physicalBytes o ≡ physicalAnswer image group channel row)
+unfolding physicalNumber physicalAnswer
+physical-answered image group channel row o e = (ap (λ (x : Outcome Float). x .number) e, ap (answered physicalBytes) e)

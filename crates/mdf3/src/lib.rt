@@ -1,11 +1,15 @@
 // The calls for C programs: include/mdf3.h declares them.
 use copy::Copied;
+use physical::PhysicalAnswer;
 use reading::Access;
+use stored::Stored;
+use stored::StoredAnswer;
 ghost use mathlib.Core.Path.{_≡_};
 ghost use Prim.Native.Nat.{ℕ};
 ghost use Rattle.answers.specs.Readings.{bytesOf};
 ghost use Rattle.answers.specs.Outcomes.{copyOutcome};
-ghost use Rattle.mdf3.specs.Answers.{answerBytes, checkNumber, checkAnswer, copyNumber, copyAnswer};
+ghost use Rattle.stored.specs.Stored.{storedOf, SignedFits};
+ghost use Rattle.mdf3.specs.Answers.{answerBytes, checkNumber, checkAnswer, copyNumber, copyAnswer, sampleBytes, sampleNumber, sampleAnswer, physicalNumber, physicalAnswer};
 
 // A number as 8 bytes, little endian.
 fn word(x: u64) -> [u8; 8]
@@ -106,6 +110,72 @@ pub extern "C" fn mdf3_copy(image: &[u8], out: &mut [u8], answer: &mut [u8; 32])
         Copied::Refused(code, at) => {
             *answer = answer_bytes(at as u64, 0, 0, 0);
             code
+        }
+    }
+}
+
+fn wide(x: u32) -> u64
+    ensures { λ r. ⌜ r ≡ x ⌝ }
+{
+    x as u64
+}
+
+// A sample as the answer holds it.
+fn sample_bytes(s: Stored) -> [u8; 32]
+    requires { ⌜ SignedFits s ⌝ }
+    ensures { λ r. ⌜ r ≡ sampleBytes (storedOf s) ⌝ }
+{
+    match s {
+        Stored::Unsigned(n) => answer_bytes(0, n, 0, 1),
+        Stored::Signed(bits, n) => answer_bytes(0, bits::twos_complement(bits, n), 0, 2),
+        Stored::Single(n) => answer_bytes(0, wide(n), 0, 3),
+        Stored::Double(n) => answer_bytes(0, n, 0, 4),
+        Stored::Part(at, n) => answer_bytes(0, at as u64, n as u64, 5),
+    }
+}
+
+// The sample of a channel in a record: the number is returned, the answer holds the place, or kind and bits of the sample.
+#[no_mangle]
+pub extern "C" fn mdf3_sample(
+    image: &[u8],
+    group: u64,
+    channel: u64,
+    record: u64,
+    answer: &mut [u8; 32],
+) -> u32
+    ensures { λ r. ⌜ (r ≡ sampleNumber (now (image .entry)) group channel «record») × (now (answer .exit) ≡ sampleAnswer (now (image .entry)) group channel «record») ⌝ }
+{
+    match stored::sample(image, group as usize, channel as usize, record as usize) {
+        StoredAnswer::Found(s) => {
+            *answer = sample_bytes(s);
+            0
+        }
+        StoredAnswer::Refused(refusal, field) => {
+            *answer = answer_bytes(field as u64, 0, 0, 0);
+            refusal
+        }
+    }
+}
+
+// Its physical value: the number is returned, the answer holds the place, or the bits of the value.
+#[no_mangle]
+pub extern "C" fn mdf3_physical(
+    image: &[u8],
+    group: u64,
+    channel: u64,
+    record: u64,
+    answer: &mut [u8; 32],
+) -> u32
+    ensures { λ r. ⌜ (r ≡ physicalNumber (now (image .entry)) group channel «record») × (now (answer .exit) ≡ physicalAnswer (now (image .entry)) group channel «record») ⌝ }
+{
+    match physical::physical(image, group as usize, channel as usize, record as usize) {
+        PhysicalAnswer::Value(x) => {
+            *answer = answer_bytes(0, floats::double_bits(x), 0, 4);
+            0
+        }
+        PhysicalAnswer::Refused(refusal, field) => {
+            *answer = answer_bytes(field as u64, 0, 0, 0);
+            refusal
         }
     }
 }
