@@ -173,8 +173,8 @@ pub extern "C" fn mdf3_physical(
             *answer = answer_bytes(0, floats::double_bits(x), 0, 4);
             0
         }
-        PhysicalAnswer::Refused(refusal, field) => {
-            *answer = answer_bytes(field as u64, 0, 0, 0);
+        PhysicalAnswer::Refused(refusal, byte) => {
+            *answer = answer_bytes(byte as u64, 0, 0, 0);
             refusal
         }
     }

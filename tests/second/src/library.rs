@@ -10,10 +10,8 @@ const ANSWER_SIZE: usize = 32;
 
 #[cfg(feature = "selfcheck")]
 pub const NAME: &str = "none, the second implementation checks itself";
-#[cfg(all(feature = "samples", not(feature = "selfcheck")))]
+#[cfg(not(feature = "selfcheck"))]
 pub const NAME: &str = "linked mdf3";
-#[cfg(not(any(feature = "samples", feature = "selfcheck")))]
-pub const NAME: &str = "linked mdf3; for samples the second implementation checks itself";
 
 #[cfg(not(feature = "selfcheck"))]
 extern "C" {
@@ -25,10 +23,6 @@ extern "C" {
         out_len: usize,
         answer: *mut u8,
     ) -> u32;
-}
-
-#[cfg(all(feature = "samples", not(feature = "selfcheck")))]
-extern "C" {
     fn mdf3_sample(
         image: *const u8,
         image_len: usize,
@@ -48,15 +42,12 @@ extern "C" {
 }
 
 #[cfg(feature = "selfcheck")]
-use stand_in::{mdf3_check, mdf3_copy};
-#[cfg(any(feature = "selfcheck", not(feature = "samples")))]
-use stand_in::{mdf3_physical, mdf3_sample};
+use stand_in::{mdf3_check, mdf3_copy, mdf3_physical, mdf3_sample};
 
 /// Stands in for the library: the second implementation behind the same calls.
-#[cfg(any(feature = "selfcheck", not(feature = "samples")))]
+#[cfg(feature = "selfcheck")]
 mod stand_in {
     use crate::compare;
-    #[cfg(feature = "selfcheck")]
     use second::canonical;
     use second::sample::{self, Asked, Call};
     use std::slice::{from_raw_parts, from_raw_parts_mut};
@@ -67,7 +58,6 @@ mod stand_in {
         }
     }
 
-    #[cfg(feature = "selfcheck")]
     pub unsafe fn mdf3_check(image: *const u8, image_len: usize, answer: *mut u8) -> u32 {
         // SAFETY: as for the library, the caller lends both parts of memory.
         let (image, answer) =
@@ -80,7 +70,6 @@ mod stand_in {
         number
     }
 
-    #[cfg(feature = "selfcheck")]
     pub unsafe fn mdf3_copy(
         image: *const u8,
         image_len: usize,
