@@ -1,4 +1,4 @@
-/* What both examples need: a file in memory, and a number of an answer. */
+/* What the examples need: a file in memory, and a number of an answer. */
 #ifndef LOAD_H
 #define LOAD_H
 

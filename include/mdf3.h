@@ -35,8 +35,8 @@ extern "C" {
 /* The numbers that calls return. With each the answer holds one place: an
  * offset in the image, except where another meaning is given. The first
  * fault in the order of docs/RULES.md decides, and there is never more
- * than one. Check gives 0 to 11, copy 0 to 13; 14 to 16 belong to
- * sampling, which is not in the library yet.
+ * than one. Check gives 0 to 11, copy 0 to 13, a sample 0 to 11, 14 and 15,
+ * a physical value these and 16.
  *
  *    0  done. The place is 0.
  *    1  the image is longer than 2,147,483,647 bytes. Place 0.
@@ -77,9 +77,19 @@ extern "C" {
  *       Place 0.
  *   13  the output is shorter than the canonical copy: the length needed
  *       stands in the place.
- *   14  no such channel group, channel or record. Place 0.
- *   15  the sample cannot be read: the place of the channel's data type.
- *   16  the sample has no physical value. Place 0.
+ *   14  no such channel group, no such channel of it or no such record of
+ *       it. Place 0.
+ *   15  the sample cannot be read: the place of the channel's data type. The
+ *       channel has no bits; an integer takes more than 64 bits, with those
+ *       below it in its first byte; a float has another width than its type
+ *       says, or does not begin with a byte; text or bytes do not begin with
+ *       a byte or are no whole number of them; the data type is a VAX float
+ *       (4 to 6).
+ *   16  the sample has no physical value. Place 0. It is text, bytes or a
+ *       32-bit float; an integer above 9,007,199,254,740,992 or below its
+ *       negative; the conversion is neither linear (formula 0, in a block
+ *       that holds both parameters) nor one to one (65535); or the number,
+ *       a parameter or the result is infinite or no number.
  */
 
 /* The answer: four numbers of 64 bits, lowest byte first.
@@ -110,6 +120,42 @@ uint32_t mdf3_check(const uint8_t *image, size_t image_len, uint8_t answer[MDF3_
  */
 uint32_t mdf3_copy(const uint8_t *image, size_t image_len, uint8_t *out, size_t out_len,
                    uint8_t answer[MDF3_ANSWER_SIZE]);
+
+/* The kinds of sample. */
+#define MDF3_UNSIGNED 1
+#define MDF3_SIGNED 2
+#define MDF3_SINGLE 3
+#define MDF3_DOUBLE 4
+#define MDF3_PART 5
+
+/* The sample of a channel in a record, as it is stored: returns 0, or 1 to 11,
+ * 14 or 15. Channel groups, channels of a group and records of a group are
+ * counted from 0, the groups over all data groups in the order of the links;
+ * any numbers may be given. The image need not have been checked before: every
+ * call checks all of it.
+ *
+ * Done: the kind is one of those above. The value is, for an unsigned number,
+ * the number; for a signed one, its two's complement in 64 bits; for a 32-bit
+ * float its bits, in the lower half; for a 64-bit float its bits. The bits of
+ * floats are as they are stored, those of NaNs too. For text and bytes the
+ * value is the place in the image where they begin and the length is how many
+ * bytes they are; all of them lie in the image. Otherwise the length is 0.
+ * Refused: value, length and kind are 0, and the answer holds the place.
+ */
+uint32_t mdf3_sample(const uint8_t *image, size_t image_len, uint64_t group, uint64_t channel, uint64_t record,
+                     uint8_t answer[MDF3_ANSWER_SIZE]);
+
+/* Its physical value: returns 0, or 1 to 11 and 14 to 16, with numbers as for
+ * mdf3_sample.
+ *
+ * Done: the kind is MDF3_DOUBLE and the value holds the bits of a 64-bit float,
+ * which is finite. Without a conversion, or with one to one, it is the sample's
+ * number; with a linear conversion the number times the second parameter,
+ * rounded, plus the first, rounded. The length is 0. Refused: as for
+ * mdf3_sample.
+ */
+uint32_t mdf3_physical(const uint8_t *image, size_t image_len, uint64_t group, uint64_t channel, uint64_t record,
+                       uint8_t answer[MDF3_ANSWER_SIZE]);
 
 #ifdef __cplusplus
 }
