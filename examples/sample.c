@@ -1,6 +1,7 @@
 /* Reads a sample: of a file, a channel group, a channel of it and a record of it, each counted from 0. Prints a line for
  * the sample and one for its physical value: the number, the place, and what there is of a value. Exit code 0: both are
- * there; 1: the physical value or both are refused; 2: the file cannot be read. */
+ * there; 1: the physical value or both are refused; 2: an argument is wrong or the file cannot
+ * be read. */
 #include "load.h"
 #include "mdf3.h"
 

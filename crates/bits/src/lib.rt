@@ -2,6 +2,7 @@
 ghost use mathlib.Core.Path.{_≡_};
 ghost use mathlib.Core.List.{reverse};
 ghost use Prim.Native.Nat.{_+_, _-_, _*_, _/_, _%_, _^_, _≤_, _<_};
+ghost use lib.Dec.{leb};
 ghost use lib.IntN.{pos, negsuc, natAbs};
 ghost use lib.ListN.{length, take, drop};
 ghost use Rattle.spec.specs.Bytes.{number};
@@ -82,11 +83,20 @@ fn below_zero(k: u64) -> i64
     !(k as i64)
 }
 
-// How far below -1 the bits of a negative number stand, by the weight of their highest.
-fn depth(half: u64, n: u64) -> u64
-    requires { ⌜ (half ≤ n) × (n < 2 * half) ⌝ }
-    ensures { λ r. ⌜ (r ≡ 2 * half - (n + 1)) × (r < half) ⌝ }
+// Whether so many bits stand for a number below zero: the highest of them is set.
+fn negative(bits: usize, n: u64) -> bool
+    requires { ⌜ (1 ≤ bits) × (bits ≤ 64) ⌝ }
+    ensures { λ r. ⌜ r ≡ leb (2 ^ (bits - 1)) n ⌝ }
 {
+    pow2(bits - 1) <= n
+}
+
+// How far below -1 it stands then.
+fn depth(bits: usize, n: u64) -> u64
+    requires { ⌜ (1 ≤ bits) × (bits ≤ 64) × (2 ^ (bits - 1) ≤ n) × (n < 2 ^ bits) ⌝ }
+    ensures { λ r. ⌜ (r ≡ 2 ^ bits - (n + 1)) × (r < 2 ^ 63) ⌝ }
+{
+    let half = pow2(bits - 1);
     half - 1 - (n - half)
 }
 
@@ -94,11 +104,10 @@ pub fn signed(bits: usize, n: u64) -> i64
     requires { ⌜ (1 ≤ bits) × (bits ≤ 64) × (n < 2 ^ bits) ⌝ }
     ensures { λ r. ⌜ r ≡ signedOf bits n ⌝ }
 {
-    let half = pow2(bits - 1);
-    if n < half {
-        return plain(n);
+    if negative(bits, n) {
+        return below_zero(depth(bits, n));
     }
-    below_zero(depth(half, n))
+    plain(n)
 }
 
 // The same number in 64 bits.
@@ -106,9 +115,8 @@ pub fn twos_complement(bits: usize, n: u64) -> u64
     requires { ⌜ (1 ≤ bits) × (bits ≤ 64) × (n < 2 ^ bits) ⌝ }
     ensures { λ r. ⌜ r ≡ twos bits n ⌝ }
 {
-    let half = pow2(bits - 1);
-    if half <= n {
-        return u64::MAX - depth(half, n);
+    if negative(bits, n) {
+        return u64::MAX - depth(bits, n);
     }
     n
 }
@@ -118,9 +126,8 @@ pub fn magnitude(bits: usize, n: u64) -> u64
     requires { ⌜ (1 ≤ bits) × (bits ≤ 64) × (n < 2 ^ bits) ⌝ }
     ensures { λ r. ⌜ r ≡ natAbs (signedOf bits n) ⌝ }
 {
-    let half = pow2(bits - 1);
-    if half <= n {
-        return depth(half, n) + 1;
+    if negative(bits, n) {
+        return depth(bits, n) + 1;
     }
     n
 }

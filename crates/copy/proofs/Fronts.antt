@@ -52,8 +52,8 @@ pub front-written : (image : List ℕ) (f : File) → AtFile image f → {o₀ o
     → Wrote o₀ o₁ 0 (take 64 (drop 0 image)) → Wrote o₁ o₂ 64 h → Wrote o₀ o₂ 0 (frontAs (imageReading image))
 unfolding frontAs
 front-written image f s e w₁ w₂ =
-    let i = file-ident image (f .hd) s in
-    then (wrote-as w₁ refl (sym i)) (wrote-as w₂ refl e) (omega (arith, ap length i, length-take-le 64 image (file-long image (f .hd) s)))
+    let i = file-ident image _ s in
+    then (wrote-as w₁ refl (sym i)) (wrote-as w₂ refl e) (omega (arith, ap length i, length-take-le 64 image (file-long image _ s)))
 
 pub file-written : (image : List ℕ) (t : Front) → FrontIs image t (imageReading image) → WellFormed (imageReading image) → {o₀ o₁ o₂ o₃ o₄ : List ℕ}
     → Wrote o₀ o₁ 0 (frontAs (imageReading image))

@@ -4,14 +4,13 @@ use Prim.Native.Nat.{ℕ}
 use mathlib.Core.Path.{_≡_, ap}
 use mathlib.Core.List.{List}
 use lib.Ieee.{Float}
-use Rattle.answers.specs.Readings.{Answer}
-use Rattle.answers.specs.Outcomes.{Outcome, outcomeOf, checkOutcome, copyOutcome}
-use Rattle.answers.specs.Samples.{Stored, sampling, sampleOutcome, physicalOutcome}
+use Rattle.answers.specs.Outcomes.{Outcome, checkOutcome, copyOutcome}
+use Rattle.answers.specs.Samples.{Stored, sampleOutcome, physicalOutcome}
 use Rattle.reading.specs.declared.Access.{Access}
 use Rattle.reading.specs.Steps.{outcome}
 use Rattle.copy.specs.declared.Copied.{Copied}
 use Rattle.copy.specs.Copying as copying
-use Rattle.mdf3.specs.Answers.{answerBytes, checkNumber, checkAnswer, lengthAnswer, copyNumber, copyAnswer, answered, sampleBytes, sampleNumber, sampleAnswer, physicalBytes, physicalNumber, physicalAnswer}
+use Rattle.mdf3.specs.Answers.{answerBytes, checkNumber, checkAnswer, lengthAnswer, copyNumber, copyAnswer, answered, storedBytes, sampleNumber, sampleAnswer, physicalBytes, physicalNumber, physicalAnswer}
 
 pub check-answered : (image : List ℕ) (v : Access) → outcome v ≡ checkOutcome image → (outcome v .number ≡ checkNumber image) × (answerBytes (outcome v .place) 0 0 0 ≡ checkAnswer image)
 unfolding checkNumber checkAnswer
@@ -21,9 +20,9 @@ pub copy-answered : (image out : List ℕ) (v : Copied) → copying.outcome v �
 unfolding copyNumber copyAnswer
 copy-answered image out v e = (ap (λ (o : Outcome ℕ). o .number) e, ap lengthAnswer e)
 
-pub sample-answered : (image : List ℕ) (group channel row : ℕ) (m : Answer Stored) → m ≡ sampling image group channel row → (outcomeOf m .number ≡ sampleNumber image group channel row) × (answered sampleBytes (outcomeOf m) ≡ sampleAnswer image group channel row)
-unfolding sampleOutcome sampleNumber sampleAnswer
-sample-answered image group channel row m e = (ap (λ (a : Answer Stored). outcomeOf a .number) e, ap (λ (a : Answer Stored). answered sampleBytes (outcomeOf a)) e)
+pub sample-answered : (image : List ℕ) (group channel row : ℕ) (o : Outcome Stored) → o ≡ sampleOutcome image group channel row → (o .number ≡ sampleNumber image group channel row) × (answered storedBytes o ≡ sampleAnswer image group channel row)
+unfolding sampleNumber sampleAnswer
+sample-answered image group channel row o e = (ap (λ (x : Outcome Stored). x .number) e, ap (answered storedBytes) e)
 
 pub physical-answered : (image : List ℕ) (group channel row : ℕ) (o : Outcome Float) → o ≡ physicalOutcome image group channel row → (o .number ≡ physicalNumber image group channel row) × (answered physicalBytes o ≡ physicalAnswer image group channel row)
 unfolding physicalNumber physicalAnswer

@@ -55,8 +55,8 @@ lengthOf (single n) = 0
 lengthOf (double n) = 0
 lengthOf (part place size) = size
 
-unfoldable pub sampleBytes : Stored → List ℕ
-sampleBytes s = answerBytes 0 (valueOf s) (lengthOf s) (kindOf s)
+unfoldable pub storedBytes : Stored → List ℕ
+storedBytes s = answerBytes 0 (valueOf s) (lengthOf s) (kindOf s)
 
 abbrev pub valueOr : {A : Type 0} → (A → List ℕ) → List ℕ → Option A → List ℕ
 valueOr bytes other none = other
@@ -70,7 +70,7 @@ unfoldable pub sampleNumber : List ℕ → ℕ → ℕ → ℕ → ℕ
 sampleNumber image group channel row = sampleOutcome image group channel row .number
 
 unfoldable pub sampleAnswer : List ℕ → ℕ → ℕ → ℕ → List ℕ
-sampleAnswer image group channel row = answered sampleBytes (sampleOutcome image group channel row)
+sampleAnswer image group channel row = answered storedBytes (sampleOutcome image group channel row)
 
 -- physical gives a place, or the bits of a 64-bit float as its value
 unfoldable pub physicalBytes : Float → List ℕ

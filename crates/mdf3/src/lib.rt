@@ -5,11 +5,10 @@ use reading::Access;
 use stored::Stored;
 use stored::StoredAnswer;
 ghost use mathlib.Core.Path.{_≡_};
-ghost use Prim.Native.Nat.{ℕ};
 ghost use Rattle.answers.specs.Readings.{bytesOf};
 ghost use Rattle.answers.specs.Outcomes.{copyOutcome};
 ghost use Rattle.stored.specs.Stored.{storedOf, SignedFits};
-ghost use Rattle.mdf3.specs.Answers.{answerBytes, checkNumber, checkAnswer, copyNumber, copyAnswer, sampleBytes, sampleNumber, sampleAnswer, physicalNumber, physicalAnswer};
+ghost use Rattle.mdf3.specs.Answers.{answerBytes, checkNumber, checkAnswer, copyNumber, copyAnswer, storedBytes, sampleNumber, sampleAnswer, physicalNumber, physicalAnswer};
 
 // A number as 8 bytes, little endian.
 fn word(x: u64) -> [u8; 8]
@@ -123,7 +122,7 @@ fn wide(x: u32) -> u64
 // A sample as the answer holds it.
 fn sample_bytes(s: Stored) -> [u8; 32]
     requires { ⌜ SignedFits s ⌝ }
-    ensures { λ r. ⌜ r ≡ sampleBytes (storedOf s) ⌝ }
+    ensures { λ r. ⌜ r ≡ storedBytes (storedOf s) ⌝ }
 {
     match s {
         Stored::Unsigned(n) => answer_bytes(0, n, 0, 1),
@@ -173,9 +172,9 @@ pub extern "C" fn mdf3_physical(
             *answer = answer_bytes(0, floats::double_bits(x), 0, 4);
             0
         }
-        PhysicalAnswer::Refused(refusal, byte) => {
-            *answer = answer_bytes(byte as u64, 0, 0, 0);
-            refusal
+        PhysicalAnswer::Refused(reason, offset) => {
+            *answer = answer_bytes(offset as u64, 0, 0, 0);
+            reason
         }
     }
 }

@@ -12,11 +12,11 @@ use lib.Seq.{length-take-le}
 use borrow.Author.Tests.{leb-true, eq-eqb}
 use Rattle.spec.specs.Bytes.{All, Bytes, join, field}
 use Rattle.spec.specs.Answer.{Answer, refused, accepted, mapAnswer}
-use Rattle.spec.specs.Block.{Image, imageOf, HD, CG, CN, CC, CE, TX, PR, HD-written, versionOf, Opened, HdBlock, readHd, CgBlock, readCg, Fields, channelType, dataType, CnBlock, readCn}
+use Rattle.spec.specs.Block.{Image, imageOf, HD, CG, CN, CC, CE, TX, PR, HD-written, versionOf, Opened, HdBlock, readHd, CgBlock, readCg, Fields, channelType, dataType, bitsFit, CnBlock, readCn}
 use Rattle.spec.specs.Reading.{Reading}
 use Rattle.spec.specs.Records.{Slot, Logged, recordsOf}
 use Rattle.spec.specs.Found.{FoundBody, FoundChannel, FoundGroup, FoundDataGroup, FoundFile, slotOf, GroupIn, groupsIn, recordsIn, readBody, readChannel, readGroup, readingOf}
-use Rattle.spec.specs.Walk.{bitsFit, fieldsPass, formulaPasses, conversionAt, channelAt, channelList, elem, isEmpty, groupAllowed, idAllowed, groupList, channelCount, dataGroupList, fileFrom, identPasses, walk, reads}
+use Rattle.spec.specs.Walk.{fieldsPass, formulaPasses, conversionAt, channelAt, channelList, elem, isEmpty, groupAllowed, idAllowed, groupList, channelCount, dataGroupList, fileFrom, identPasses, walk, reads}
 use Rattle.spec.specs.WellFormed.{BodyFits, NoLinks, FieldsFit, WellFormedChannel, WellFormedGroup, channelTotal, WellFormedIdent, WellFormed}
 use Rattle.spec.proofs.Answers.{Gives, gives, gives-none, bind, test, anything, both-give}
 use Rattle.spec.proofs.Opens.{OpenedBlock, open-gives, body-gives, length-field, bytes-take, bytes-join, bytes-field, u16-small, u32-small}

@@ -1,10 +1,10 @@
 -- The blocks of the format: identifier, least and written size, fields, and how a block opens. Document 01, Blocks; docs/RULES.md, 2.
 -- Assumes nothing.
-use Prim.Native.Nat.{ℕ, _+_, _-_}
-use mathlib.Core.Bool.{cond}
+use Prim.Native.Nat.{ℕ, _+_, _*_, _-_}
+use mathlib.Core.Bool.{Bool, cond, _||_}
 use mathlib.Core.List.{List, [], _∷_}
 use mathlib.Core.Option.{Option, none, some}
-use lib.Dec.{leb, ltb}
+use lib.Dec.{leb, ltb, eqb}
 use lib.ListN.{length, take, drop}
 use Rattle.spec.specs.Bytes.{number, sameBytes, bytesOf, join, field, u16, u32, link, linkBytes}
 use Rattle.spec.specs.Answer.{Answer, accepted, _>>=_, require, atPlace}
@@ -256,6 +256,10 @@ dataType f = u16 (190 - 24) (f .main)
 
 abbrev pub addedOffset : Fields → ℕ
 addedOffset f = number (f .added)
+
+-- the bits of a channel lie in a record of this size; with no bits they do
+abbrev pub bitsFit : ℕ → Fields → Bool
+bitsFit size f = eqb (bitCount f) 0 || leb (startBit f + 8 * addedOffset f + bitCount f) (8 * size)
 
 pub record CnBlock : Type 0 where
   pub next : Option ℕ

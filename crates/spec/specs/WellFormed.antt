@@ -8,9 +8,8 @@ use mathlib.Core.Option.{none, some}
 use lib.Dec.{leb, eqb}
 use lib.ListN.{length, take}
 use Rattle.spec.specs.Bytes.{All, Bytes, sameBytes}
-use Rattle.spec.specs.Block.{Kind, CC, CE, TX, PR, head-size, ID-size, HD-written, finalized, byteOrder, floatFormat, versionOf, formula, Fields, channelType, dataType}
+use Rattle.spec.specs.Block.{Kind, CC, CE, TX, PR, head-size, ID-size, HD-written, finalized, byteOrder, floatFormat, versionOf, formula, Fields, channelType, dataType, bitsFit}
 use Rattle.spec.specs.Reading.{Body, Channel, Group, Reading, version}
-use Rattle.spec.specs.Walk.{bitsFit}
 
 -- a body fits a block of its kind
 abbrev pub BodyFits : Kind → Body → Type 0

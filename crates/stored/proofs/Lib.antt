@@ -1,3 +1,4 @@
+pub mod Maps
 mod Rows
 pub mod Sampling
 mod Storing

@@ -2,16 +2,18 @@
 -- Assumes nothing.
 use Prim.Native.Nat.{ℕ, zero, suc, _+_, _-_, _≤_, _<_}
 use mathlib.Core.Path.{_≡_, refl, sym, _∙_, ap}
-use mathlib.Core.Bool.{Bool}
+use mathlib.Core.Bool.{Bool, false}
 use mathlib.Core.Logic.{inl, inr}
-use mathlib.Core.List.{[], _∷_}
+use mathlib.Core.List.{List, [], _∷_}
 use native.Mathlib.Omega.{arith}
 use lib.ListN.{List·getD-eq-default}
 use types.Run.{OneOf}
-use Rattle.answers.specs.Readings.{Answer, refused}
-use Rattle.answers.specs.Samples.{Fields, Logged, dataType, Encoding, unsignedInteger, signedInteger, singleFloat, doubleFloat, byteRun, unreadable, DataType, dataTypes, Stored, typeOf, typeAt, storedAs}
+use Rattle.answers.specs.Samples.{Encoding, unsignedInteger, signedInteger, singleFloat, doubleFloat, byteRun, unreadable, DataType, dataTypes, typeOf, typeAt, storedAs}
 use Rattle.bits.specs.Bits.{orderOf}
-use Rattle.stored.specs.Stored.{bigOf}
+use Rattle.reading.specs.declared.Signal.{Signal}
+use Rattle.stored.specs.declared.StoredAnswer.{StoredAnswer}
+use Rattle.stored.specs.declared.StoredAnswer.the-variants.{Refused}
+use Rattle.stored.specs.Stored.{typed, ReadAs, bigOf}
 
 -- a data type of this encoding, in the code's byte order
 abbrev Reads : Encoding → ℕ → Type 0
@@ -34,13 +36,13 @@ single-type k h = one-of-three (Reads singleFloat) 2 11 15 k refl refl refl h
 pub double-type : (k : ℕ) → OneOf (3 ∷ 12 ∷ 16 ∷ []) k → Reads doubleFloat k
 double-type k h = one-of-three (Reads doubleFloat) 3 12 16 k refl refl refl h
 
--- what a run of two keys says
-pub run-type : (k : ℕ) → 7 ≤ k → k < 9 → Reads byteRun k
+-- 7 and 8, which have no byte order
+pub run-type : (k : ℕ) → 7 ≤ k → k < 9 → Reads byteRun k × (false ≡ bigOf k)
 run-type k l h = go (k - 7) (omega arith) (omega arith)
   where
-    go : (j : ℕ) → k ≡ 7 + j → j < 2 → Reads byteRun k
-    go zero e h = rw e
-    go (suc zero) e h = rw e
+    go : (j : ℕ) → k ≡ 7 + j → j < 2 → Reads byteRun k × (false ≡ bigOf k)
+    go zero e h = rw e (refl, refl)
+    go (suc zero) e h = rw e (refl, refl)
     go (suc (suc j)) e h = absurd (omega arith)
 
 -- none of the keys below 7, and none from 9 on
@@ -75,13 +77,25 @@ module _ (k : ℕ)
 
 -- ---- a sample by its data type
 
-module _ (f : Fields) (field : ℕ) (x : Logged) (k : ℕ) (is : k ≡ dataType f) where
-  pub read-as : (e : Encoding) (big : Bool) {a : Answer Stored} → Reads e k → big ≡ bigOf k → a ≡ storedAs e (orderOf big) f field x → a ≡ storedAs (typeOf f .encoding) (typeOf f .order) f field x
-  read-as e big t b i =
-      i ∙ ap (λ o. storedAs e (orderOf o) f field x) b
-      ∙ ap (λ (d : DataType). storedAs (d .encoding) (d .order) f field x) (sym t)
-      ∙ ap (λ n. storedAs (typeAt n .encoding) (typeAt n .order) f field x) is
+module _ {image : List ℕ} {at : ℕ} {s : Signal} {field : ℕ} where
+  -- the data type that the code read by is the channel's
+  pub read-as : (e : Encoding) (big : Bool) {r : StoredAnswer} → Reads e (s .kind) → big ≡ bigOf (s .kind) → ReadAs (typed e big) image at s field r → ReadAs typeOf image at s field r
+  read-as e big t b h =
+      record {
+        is = λ f x i.
+            h .is f x i
+            ∙ ap (λ o. storedAs e (orderOf o) f field x) b
+            ∙ ap (λ (d : DataType). storedAs (d .encoding) (d .order) f field x) (sym t)
+            ∙ ap (λ n. storedAs (typeAt n .encoding) (typeAt n .order) f field x) (i .signal .kind);
+        fits = h .fits;
+      }
 
-  pub unread : typeAt k .encoding ≡ unreadable → refused 15 field ≡ storedAs (typeOf f .encoding) (typeOf f .order) f field x
+  pub unread : typeAt (s .kind) .encoding ≡ unreadable → ReadAs typeOf image at s field (Refused 15 field)
   unfolding storedAs
-  unread t = ap (λ e. storedAs e (typeAt k .order) f field x) (sym t) ∙ ap (λ n. storedAs (typeAt n .encoding) (typeAt n .order) f field x) is
+  unread t =
+      record {
+        is = λ f x i.
+            ap (λ e. storedAs e (typeAt (s .kind) .order) f field x) (sym t)
+            ∙ ap (λ n. storedAs (typeAt n .encoding) (typeAt n .order) f field x) (i .signal .kind);
+        fits = tt;
+      }

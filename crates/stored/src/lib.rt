@@ -3,12 +3,12 @@ use reading::Channel;
 use reading::Signal;
 use reading::Sought;
 ghost use mathlib.Core.Path.{_≡_};
-ghost use Prim.Native.Nat.{ℕ, _+_, _≤_, _<_};
-ghost use lib.ListN.{length, take, drop};
-ghost use Rattle.answers.specs.Samples.{Fields, Logged, unsignedInteger, signedInteger, singleFloat, doubleFloat, byteRun, typeOf, storedAs, storedSample, sampling};
-ghost use Rattle.bits.specs.Bits.{orderOf};
-ghost use Rattle.reading.specs.Steps.{AtChannel, theChannel, channelPlace};
-ghost use Rattle.stored.specs.Stored.{Room, BitsOf, answerOf, Fits, bigOf, RowAt, LoggedAt};
+ghost use mathlib.Core.Bool.{false, _&&_};
+ghost use lib.Dec.{eqb};
+ghost use Prim.Native.Nat.{_+_};
+ghost use Rattle.answers.specs.Samples.{Logged, unsignedInteger, signedInteger, singleFloat, doubleFloat, byteRun, typeOf, storedSample};
+ghost use Rattle.reading.specs.Steps.{theChannel, channelPlace};
+ghost use Rattle.stored.specs.Stored.{Room, typed, ReadAs, answerOf, Fits, bigOf, RowAt, LoggedAt, SampleIs};
 
 // Its kind and its bits, or the part of the image that it is.
 pub enum Stored {
@@ -29,7 +29,7 @@ pub enum StoredAnswer {
 
 fn unsigned(image: &[u8], at: usize, s: Signal, big: bool, field: usize) -> StoredAnswer
     requires { ⌜ Room (now image) at s ⌝ }
-    ensures { λ r. ⌜ ((f : Fields) (x : Logged) → BitsOf (now (image .entry)) at s f x → answerOf r ≡ storedAs unsignedInteger (orderOf big) f field x) × Fits (now (image .entry)) r ⌝ }
+    ensures { λ r. ⌜ ReadAs (typed unsignedInteger big) (now (image .entry)) at s field r ⌝ }
 {
     if 64 < s.bit + s.bits {
         return StoredAnswer::Refused(15, field);
@@ -39,7 +39,7 @@ fn unsigned(image: &[u8], at: usize, s: Signal, big: bool, field: usize) -> Stor
 
 fn signed(image: &[u8], at: usize, s: Signal, big: bool, field: usize) -> StoredAnswer
     requires { ⌜ Room (now image) at s ⌝ }
-    ensures { λ r. ⌜ ((f : Fields) (x : Logged) → BitsOf (now (image .entry)) at s f x → answerOf r ≡ storedAs signedInteger (orderOf big) f field x) × Fits (now (image .entry)) r ⌝ }
+    ensures { λ r. ⌜ ReadAs (typed signedInteger big) (now (image .entry)) at s field r ⌝ }
 {
     if 64 < s.bit + s.bits {
         return StoredAnswer::Refused(15, field);
@@ -47,14 +47,18 @@ fn signed(image: &[u8], at: usize, s: Signal, big: bool, field: usize) -> Stored
     StoredAnswer::Found(Stored::Signed(s.bits, bits::raw(image, at, s.bit, s.bits, big)))
 }
 
+// Whether a signal fills so many bits from the first of a byte on.
+fn fills(s: Signal, width: usize) -> bool
+    ensures { λ r. ⌜ r ≡ (eqb (s .bit) 0 && eqb (s .bits) width) ⌝ }
+{
+    s.bit == 0 && s.bits == width
+}
+
 fn single(image: &[u8], at: usize, s: Signal, big: bool, field: usize) -> StoredAnswer
     requires { ⌜ Room (now image) at s ⌝ }
-    ensures { λ r. ⌜ ((f : Fields) (x : Logged) → BitsOf (now (image .entry)) at s f x → answerOf r ≡ storedAs singleFloat (orderOf big) f field x) × Fits (now (image .entry)) r ⌝ }
+    ensures { λ r. ⌜ ReadAs (typed singleFloat big) (now (image .entry)) at s field r ⌝ }
 {
-    if s.bit != 0 {
-        return StoredAnswer::Refused(15, field);
-    }
-    if s.bits != 32 {
+    if !fills(s, 32) {
         return StoredAnswer::Refused(15, field);
     }
     StoredAnswer::Found(Stored::Single(bits::raw(image, at, s.bit, s.bits, big) as u32))
@@ -62,29 +66,25 @@ fn single(image: &[u8], at: usize, s: Signal, big: bool, field: usize) -> Stored
 
 fn double(image: &[u8], at: usize, s: Signal, big: bool, field: usize) -> StoredAnswer
     requires { ⌜ Room (now image) at s ⌝ }
-    ensures { λ r. ⌜ ((f : Fields) (x : Logged) → BitsOf (now (image .entry)) at s f x → answerOf r ≡ storedAs doubleFloat (orderOf big) f field x) × Fits (now (image .entry)) r ⌝ }
+    ensures { λ r. ⌜ ReadAs (typed doubleFloat big) (now (image .entry)) at s field r ⌝ }
 {
-    if s.bit != 0 {
-        return StoredAnswer::Refused(15, field);
-    }
-    if s.bits != 64 {
+    if !fills(s, 64) {
         return StoredAnswer::Refused(15, field);
     }
     StoredAnswer::Found(Stored::Double(bits::raw(image, at, s.bit, s.bits, big)))
 }
 
 // Text or bytes: a part of the image.
-fn run(image: &[u8], at: usize, s: Signal, big: bool, field: usize) -> StoredAnswer
+fn run(image: &[u8], at: usize, s: Signal, field: usize) -> StoredAnswer
     requires { ⌜ Room (now image) at s ⌝ }
-    ensures { λ r. ⌜ ((f : Fields) (x : Logged) → BitsOf (now (image .entry)) at s f x → answerOf r ≡ storedAs byteRun (orderOf big) f field x) × Fits (now (image .entry)) r ⌝ }
+    ensures { λ r. ⌜ ReadAs (typed byteRun false) (now (image .entry)) at s field r ⌝ }
 {
-    if s.bit != 0 {
+    let size = s.bits / 8;
+    let whole = 8 * size;
+    if !fills(s, whole) {
         return StoredAnswer::Refused(15, field);
     }
-    if s.bits % 8 != 0 {
-        return StoredAnswer::Refused(15, field);
-    }
-    StoredAnswer::Found(Stored::Part(at, s.bits / 8))
+    StoredAnswer::Found(Stored::Part(at, size))
 }
 
 // Whether a data type has its highest byte first.
@@ -97,7 +97,7 @@ fn big_endian(kind: usize) -> bool
 // The sample of a channel's bits, by its data type.
 fn stored_as(image: &[u8], at: usize, s: Signal, field: usize) -> StoredAnswer
     requires { ⌜ Room (now image) at s ⌝ }
-    ensures { λ r. ⌜ ((f : Fields) (x : Logged) → BitsOf (now (image .entry)) at s f x → answerOf r ≡ storedAs (typeOf f .encoding) (typeOf f .order) f field x) × Fits (now (image .entry)) r ⌝ }
+    ensures { λ r. ⌜ ReadAs typeOf (now (image .entry)) at s field r ⌝ }
 {
     let kind = s.kind;
     let big = big_endian(kind);
@@ -106,7 +106,7 @@ fn stored_as(image: &[u8], at: usize, s: Signal, field: usize) -> StoredAnswer
         1 | 10 | 14 => signed(image, at, s, big, field),
         2 | 11 | 15 => single(image, at, s, big, field),
         3 | 12 | 16 => double(image, at, s, big, field),
-        7 | 8 => run(image, at, s, big, field),
+        7 | 8 => run(image, at, s, field),
         _ => StoredAnswer::Refused(15, field),
     }
 }
@@ -126,7 +126,7 @@ pub fn sample_in(image: &[u8], c: Channel, place: usize, size: usize) -> StoredA
 
 // The sample of a channel in a record as it is stored. Groups, channels and records are counted from 0.
 pub fn sample(image: &[u8], group: usize, channel: usize, record: usize) -> StoredAnswer
-    ensures { λ r. ⌜ (answerOf r ≡ sampling (now (image .entry)) group channel «record») × Fits (now (image .entry)) r ⌝ }
+    ensures { λ r. ⌜ SampleIs (now (image .entry)) group channel «record» r ⌝ }
 {
     match reading::seek(image, group, channel, record) {
         Sought::Refused(number, place) => { StoredAnswer::Refused(number, place) }

@@ -11,8 +11,8 @@ use lib.Seq.{drop-drop}
 use borrow.Author.Tests.{le-leb, lt-leb, eq-eqb, ne-eqb}
 use Rattle.spec.specs.Bytes.{number, u16, toLink, isNil}
 use Rattle.spec.specs.Answer.{Answer, refused, accepted, _>>=_, require}
-use Rattle.spec.specs.Block.{Image, CC, opening, Opened, bodyOf, bodyAt, formula, Fields, channelType, startBit, bitCount, dataType, addedOffset, CnBlock}
-use Rattle.spec.specs.Walk.{bitsFit, fieldsPass, formulaPasses, conversionAt, channelAt}
+use Rattle.spec.specs.Block.{Image, CC, opening, Opened, bodyOf, bodyAt, formula, Fields, channelType, startBit, bitCount, dataType, addedOffset, bitsFit, CnBlock}
+use Rattle.spec.specs.Walk.{fieldsPass, formulaPasses, conversionAt, channelAt}
 use Rattle.spec.proofs.Answers.{step, pass, stop, fail}
 use Rattle.spec.proofs.Places.{field-in}
 use Rattle.image.specs.declared.Span.{Span}

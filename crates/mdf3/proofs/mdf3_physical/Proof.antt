@@ -17,8 +17,8 @@ double-bits-requires c κs = search needs
 answer-bytes-requires : tie.Need-answer-bytes-requires
 answer-bytes-requires c κs = search needs
 
-enum-known-refusal : tie.Need-enum-known-refusal
-enum-known-refusal c = search needs
+enum-known-reason : tie.Need-enum-known-reason
+enum-known-reason c = search needs
 
 answer-bytes-requires-2 : tie.Need-answer-bytes-requires-2
 answer-bytes-requires-2 c κs = search needs
@@ -32,7 +32,7 @@ returns c =
 
 returns-2 : tie.Need-returns-2
 returns-2 c =
-    let e = rw (c .before .before .refusal .given .1) at (c .before .before .before .before .physical .ensures) in
+    let e = rw (c .before .before .reason .given .1) at (c .before .before .before .before .physical .ensures) in
     let a = physical-answered _ _ _ _ _ e in
     (a .0, c .answer-bytes2 .ensures ∙ a .1)
 
@@ -44,7 +44,7 @@ mdf3-physical-spec =
     enum-known-x
     double-bits-requires
     answer-bytes-requires
-    enum-known-refusal
+    enum-known-reason
     answer-bytes-requires-2
     returns
     returns-2)

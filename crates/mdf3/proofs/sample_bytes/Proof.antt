@@ -1,7 +1,6 @@
-use Rattle.stored.specs.declared.Stored.{Stored}
-use Rattle.stored.specs.Stored.{storedOf}
-use Rattle.mdf3.specs.Answers.{answerBytes, sampleBytes}
-use mathlib.Core.Path.{sym, _∙_, ap}
+use Rattle.stored.proofs.Maps.{at-kind}
+use Rattle.mdf3.specs.Answers.{answerBytes, storedBytes}
+use mathlib.Core.Path.{_∙_, ap}
 use borrow.Author.Needs.{needs}
 use Rattle.mdf3.proofs.sample_bytes.Statement.{statement}
 use Rattle.mdf3.proofs.sample_bytes.Tie as tie
@@ -43,28 +42,24 @@ answer-bytes-requires-5 : tie.Need-answer-bytes-requires-5
 answer-bytes-requires-5 c κs = search needs
 
 returns : tie.Need-returns
-unfolding sampleBytes
-returns c = c .answer-bytes .ensures ∙ sym (ap (λ (s : Stored). sampleBytes (storedOf s)) (c .before .before .s .given .1))
+unfolding storedBytes
+returns c = at-kind storedBytes (c .answer-bytes .ensures) (c .before .before .s .given .1)
 
 returns-2 : tie.Need-returns-2
-unfolding sampleBytes
-returns-2 c =
-    c .answer-bytes2 .ensures ∙ ap (λ v. answerBytes 0 v 0 2) (c .before .twos-complement .ensures)
-    ∙ sym (ap (λ (s : Stored). sampleBytes (storedOf s)) (c .before .before .before .s2 .given .1))
+unfolding storedBytes
+returns-2 c = at-kind storedBytes (c .answer-bytes2 .ensures ∙ ap (λ v. answerBytes 0 v 0 2) (c .before .twos-complement .ensures)) (c .before .before .before .s2 .given .1)
 
 returns-3 : tie.Need-returns-3
-unfolding sampleBytes
-returns-3 c =
-    c .answer-bytes3 .ensures ∙ ap (λ v. answerBytes 0 v 0 3) (c .before .wide .ensures)
-    ∙ sym (ap (λ (s : Stored). sampleBytes (storedOf s)) (c .before .before .before .s3 .given .1))
+unfolding storedBytes
+returns-3 c = at-kind storedBytes (c .answer-bytes3 .ensures ∙ ap (λ v. answerBytes 0 v 0 3) (c .before .wide .ensures)) (c .before .before .before .s3 .given .1)
 
 returns-4 : tie.Need-returns-4
-unfolding sampleBytes
-returns-4 c = c .answer-bytes4 .ensures ∙ sym (ap (λ (s : Stored). sampleBytes (storedOf s)) (c .before .before .s4 .given .1))
+unfolding storedBytes
+returns-4 c = at-kind storedBytes (c .answer-bytes4 .ensures) (c .before .before .s4 .given .1)
 
 returns-5 : tie.Need-returns-5
-unfolding sampleBytes
-returns-5 c = c .answer-bytes5 .ensures ∙ sym (ap (λ (s : Stored). sampleBytes (storedOf s)) (c .before .before .s5 .given .1))
+unfolding storedBytes
+returns-5 c = at-kind storedBytes (c .answer-bytes5 .ensures) (c .before .before .s5 .given .1)
 
 pub sample-bytes-spec : {M : Type 1} → statement M
 sample-bytes-spec =

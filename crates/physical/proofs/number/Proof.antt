@@ -1,7 +1,6 @@
 use Rattle.answers.specs.Samples.{numberOf}
-use Rattle.stored.specs.declared.Stored.{Stored}
-use Rattle.stored.specs.Stored.{storedOf}
-use mathlib.Core.Path.{sym, _∙_, ap}
+use Rattle.stored.proofs.Maps.{at-kind}
+use mathlib.Core.Path.{refl}
 use borrow.Author.Needs.{needs}
 use Rattle.physical.proofs.number.Statement.{statement}
 use Rattle.physical.proofs.number.Tie as tie
@@ -31,21 +30,21 @@ enum-known-s-5 : tie.Need-enum-known-s-5
 enum-known-s-5 c = search needs
 
 returns : tie.Need-returns
-returns c = c .natural .ensures ∙ sym (ap (λ (s : Stored). numberOf (storedOf s)) (c .before .before .s .given .1))
+returns c = at-kind numberOf (c .natural .ensures) (c .before .before .s .given .1)
 
 returns-2 : tie.Need-returns-2
-returns-2 c = c .integer .ensures ∙ sym (ap (λ (s : Stored). numberOf (storedOf s)) (c .before .before .s2 .given .1))
+returns-2 c = at-kind numberOf (c .integer .ensures) (c .before .before .s2 .given .1)
 
 returns-3 : tie.Need-returns-3
-returns-3 c = c .float .ensures ∙ sym (ap (λ (s : Stored). numberOf (storedOf s)) (c .before .before .s3 .given .1))
+returns-3 c = at-kind numberOf (c .float .ensures) (c .before .before .s3 .given .1)
 
 returns-4 : tie.Need-returns-4
 unfolding numberOf
-returns-4 c = sym (ap (λ (s : Stored). numberOf (storedOf s)) (c .before .s4 .given .1))
+returns-4 c = at-kind numberOf refl (c .before .s4 .given .1)
 
 returns-5 : tie.Need-returns-5
 unfolding numberOf
-returns-5 c = sym (ap (λ (s : Stored). numberOf (storedOf s)) (c .before .s5 .given .1))
+returns-5 c = at-kind numberOf refl (c .before .s5 .given .1)
 
 pub number-spec : {M : Type 1} → statement M
 number-spec =

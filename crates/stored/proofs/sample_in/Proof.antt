@@ -34,7 +34,7 @@ returns-2 c =
     let signal = known .before .signal .ensures in
     let some = c .before .before .if1 .left in
     let sample = c .stored-as .ensures in
-    (λ x h. some-bits _ _ x (λ e. some (signal .bits ∙ e)) (rw (known .type-field .ensures) at (sample .0 _ x (bits-of _ _ _ _ (known .before .before .before .pre) _ signal some x h))), sample .1)
+    (λ x h. some-bits _ _ x (λ e. some (signal .bits ∙ e)) (rw (known .type-field .ensures) at (sample .is _ x (bits-of _ _ _ _ (known .before .before .before .pre) _ signal some x h))), sample .fits)
 
 pub sample-in-spec : {M : Type 1} → statement M
 sample-in-spec =

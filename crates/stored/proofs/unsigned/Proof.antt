@@ -12,14 +12,18 @@ add-if1 c = search needs
 
 returns : tie.Need-returns
 unfolding storedAs
-returns c = (λ f x h. refuses _ _ _ _ (wide _ _ _ f x h (c .if1 .taken)), tt)
+returns c = record { is = λ f x h. refuses _ _ _ _ (wide _ _ _ f x h (c .if1 .taken)); fits = tt }
 
 raw-requires : tie.Need-raw-requires
 raw-requires c κs = search needs
 
 returns-2 : tie.Need-returns-2
 unfolding storedAs
-returns-2 c = (λ f x h. admits _ _ _ _ (narrow _ _ _ f x h (c .before .if1 .left)) (ap (λ n. accepted (unsigned n)) (c .raw .ensures .0 ∙ pattern-is _ _ _ f x h _)), (tt, tt))
+returns-2 c =
+    record {
+      is = λ f x h. admits _ _ _ _ (narrow _ _ _ f x h (c .before .if1 .left)) (ap (λ n. accepted (unsigned n)) (c .raw .ensures .0 ∙ pattern-is _ _ _ f x h _));
+      fits = (tt, tt);
+    }
 
 pub unsigned-spec : {M : Type 1} → statement M
 unsigned-spec = tie.close (tie.spec add-if1 returns raw-requires returns-2)
