@@ -19,56 +19,66 @@ static size_t block(uint8_t *image, size_t *end, const char *id, unsigned size)
     return at;
 }
 
-static const unsigned sizes[3] = {8, 12, 20};
+/* The record size of a group: all from the least to the most, in steps. */
+static unsigned size_of(const struct shape *s, unsigned g)
+{
+    return s->least + (s->groups == 1 ? 0 : (s->most - s->least) * g / (s->groups - 1));
+}
 
-/* One channel group with its 4 channels, behind a link field. */
-static size_t group(uint8_t *image, size_t *end, size_t link, unsigned g)
+/* One channel group with its channels, behind a link field. */
+static size_t group(uint8_t *image, size_t *end, size_t link, const struct shape *s, unsigned g)
 {
     size_t cg = block(image, end, "CG", 30);
     put(image, link, cg, 4);
     put(image, cg + 16, g + 1, 2);
-    put(image, cg + 20, sizes[g], 2);
+    put(image, cg + 20, size_of(s, g), 2);
     link = cg + 8;
-    for (unsigned n = 0; n < 4; n++) {
+    for (unsigned n = 0; n < s->channels; n++) {
         size_t cn = block(image, end, "CN", 228);
         put(image, link, cn, 4);
-        put(image, cn + 186, 16 * n, 2);
+        put(image, cn + 186, 16 * (n % (size_of(s, g) / 2)), 2);
         put(image, cn + 188, 16, 2);
         link = cn + 4;
     }
     return cg;
 }
 
-size_t made(uint8_t *image, size_t room, unsigned mode)
+/* Records of all groups in turn, as long as there is room. */
+static void records(uint8_t *image, size_t *end, const struct shape *s, const size_t *cg)
 {
-    unsigned groups = mode == 0 ? 1 : 3;
-    uint32_t counts[3] = {0, 0, 0};
-    size_t cg[3], end = 64, hd, dg, link;
-    memset(image, 0, room);
+    uint32_t counts[256] = {0};
+    for (unsigned g = 0; s->room - *end >= size_of(s, g) + s->mode; g = (g + 1) % s->groups) {
+        unsigned size = size_of(s, g);
+        if (s->mode > 0)
+            image[*end] = (uint8_t)(g + 1);
+        /* records that differ, so that one in a wrong place shows */
+        put(image, *end + (s->mode > 0), *end * 2654435761u, 8);
+        if (s->mode > 1)
+            image[*end + 1 + size] = (uint8_t)(g + 1);
+        *end += size + s->mode;
+        counts[g]++;
+    }
+    for (unsigned g = 0; g < s->groups; g++)
+        put(image, cg[g] + 22, counts[g], 4);
+}
+
+size_t made(uint8_t *image, const struct shape *s)
+{
+    size_t cg[256], end = 64, hd, dg, link;
+    memset(image, 0, s->room);
     memcpy(image, "MDF     3.30    bench   ", 24);
     put(image, 28, 330, 2);
     hd = block(image, &end, "HD", 208);
     dg = block(image, &end, "DG", 28);
     put(image, hd + 4, dg, 4);
-    put(image, dg + 22, mode, 2);
+    put(image, dg + 22, s->mode, 2);
     link = dg + 8;
-    for (unsigned g = 0; g < groups; g++) {
-        cg[g] = group(image, &end, link, g);
+    for (unsigned g = 0; g < s->groups; g++) {
+        cg[g] = group(image, &end, link, s, g);
         link = cg[g] + 4;
     }
     put(image, dg + 16, end, 4);
-    for (unsigned g = 0; room - end >= sizes[g] + mode; g = (g + 1) % groups) {
-        if (mode > 0)
-            image[end] = (uint8_t)(g + 1);
-        /* records that differ, so that one in a wrong place shows */
-        put(image, end + (mode > 0), end * 2654435761u, 8);
-        if (mode > 1)
-            image[end + 1 + sizes[g]] = (uint8_t)(g + 1);
-        end += sizes[g] + mode;
-        counts[g]++;
-    }
-    for (unsigned g = 0; g < groups; g++)
-        put(image, cg[g] + 22, counts[g], 4);
+    records(image, &end, s, cg);
     return end;
 }
 

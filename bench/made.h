@@ -1,13 +1,22 @@
-/* A file to measure on, and a clock. */
+/* Files to measure on, and a clock. */
 #ifndef MADE_H
 #define MADE_H
 
 #include <stddef.h>
 #include <stdint.h>
 
-/* A file of about so many bytes: one data group in this mode, groups with 4 channels each whose records are
- * 8, 12 and 20 bytes long, in turn. Mode 0 has one group. Its length. */
-size_t made(uint8_t *image, size_t room, unsigned mode);
+struct shape {
+    const char *name;
+    size_t room;       /* about so many bytes */
+    unsigned mode;     /* how many ID bytes a record has; with none there is one group */
+    unsigned groups;   /* their records are from least to most bytes long */
+    unsigned channels; /* of each group */
+    unsigned least, most;
+    unsigned files; /* so many of them, one after the other */
+};
+
+/* Makes a file; its length. The data are filled up with records of all groups in turn. */
+size_t made(uint8_t *image, const struct shape *s);
 
 /* Seconds. */
 double now(void);

@@ -28,6 +28,8 @@
 #include <stddef.h>
 #include <stdint.h>
 
+#define MDF3_VERSION "1.0.0"
+
 #ifdef __cplusplus
 extern "C" {
 #endif

@@ -1,6 +1,7 @@
 //! Images and copies at the greatest length, samples far behind, and empty
 //! parts of memory.
 
+use second::calls::{find, length_of};
 use crate::compare::{self, compare, shown, Answer, Difference, Wanted};
 use crate::output::Output;
 use crate::tally::Tally;
@@ -209,7 +210,7 @@ fn long_output(tally: &mut Tally) -> Result<(), Difference> {
     let longer = with_copy_of(LONGEST as u64 + 1).bytes;
     for (image, room) in [(&longer, LONGEST + 1), (&longer, LONGEST), (&longest, LONGEST - 1)] {
         output.limit(room);
-        let length = compare::length_of(&compare::find(image));
+        let length = length_of(&find(image));
         compare::compare_answer(image, length, &mut output, tally)?;
         if !output.untouched_beyond(0) {
             return Err(Difference::new("refused copy", format!("room {room}: touched")));
@@ -225,8 +226,8 @@ fn long_output(tally: &mut Tally) -> Result<(), Difference> {
 
 /// A copy compared piece by piece, and what it is good for.
 fn whole_copy(image: &[u8], output: &mut Output, tally: &mut Tally) -> Result<(), Difference> {
-    let found = compare::find(image);
-    let answer = compare::compare_answer(image, compare::length_of(&found), output, tally)?;
+    let found = find(image);
+    let answer = compare::compare_answer(image, length_of(&found), output, tally)?;
     let Ok(found) = found else {
         return Err(Difference::new("long copy", "refused"));
     };
@@ -239,7 +240,7 @@ fn whole_copy(image: &[u8], output: &mut Output, tally: &mut Tally) -> Result<()
     if !equal || end != copy.len() || !output.untouched_beyond(end) {
         return Err(Difference::new("long copy", format!("of {end} bytes is another")));
     }
-    match compare::find(copy) {
+    match find(copy) {
         Ok(again) if again.reading == found.reading => {}
         _ => return Err(Difference::new("long copy", "does not read as its original")),
     }

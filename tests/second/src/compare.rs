@@ -4,10 +4,10 @@ use crate::library;
 use crate::output::Output;
 use crate::sampling;
 use crate::tally::Tally;
+use second::calls::{find, length_of, reading_of, Found};
 use second::canonical;
 use second::make::cases::{Known, Told};
-use second::mdf::{self, Refusal};
-use second::reading::Reading;
+use second::mdf::Refusal;
 
 /// Number and place of a check.
 pub type Answer = (u32, u64);
@@ -15,30 +15,6 @@ pub type Answer = (u32, u64);
 /// The longest copy whose bytes are compared for every image; longer ones
 /// have cases of their own.
 const LONG: u64 = 16 << 20;
-
-/// What the second implementation finds in an accepted image.
-pub struct Found<'a> {
-    pub reading: Reading<'a>,
-    pub length: u64,
-}
-
-pub fn find(image: &[u8]) -> Result<Found<'_>, Refusal> {
-    let reading = Reading::of(image, mdf::check(image)?);
-    let length = canonical::length(&reading);
-    Ok(Found { reading, length })
-}
-
-/// The length of the copy, or why the image is refused.
-pub fn length_of(found: &Result<Found<'_>, Refusal>) -> Result<u64, Refusal> {
-    found.as_ref().map(|found| found.length).map_err(|refusal| *refusal)
-}
-
-/// The reading, or why the image is refused.
-pub fn reading_of<'f, 'a>(
-    found: &'f Result<Found<'a>, Refusal>,
-) -> Result<&'f Reading<'a>, Refusal> {
-    found.as_ref().map(|found| &found.reading).map_err(|refusal| *refusal)
-}
 
 /// What is known of an image beforehand.
 #[derive(Default)]

@@ -42,97 +42,10 @@ extern "C" {
 }
 
 #[cfg(feature = "selfcheck")]
-use stand_in::{mdf3_check, mdf3_copy, mdf3_physical, mdf3_sample};
-
-/// Stands in for the library: the second implementation behind the same calls.
-#[cfg(feature = "selfcheck")]
-mod stand_in {
-    use crate::compare;
-    use second::canonical;
-    use second::sample::{self, Asked, Call};
-    use std::slice::{from_raw_parts, from_raw_parts_mut};
-
-    fn write(parts: [u64; 4], answer: &mut [u8]) {
-        for (bytes, part) in answer.chunks_exact_mut(8).zip(parts) {
-            bytes.copy_from_slice(&part.to_le_bytes());
-        }
-    }
-
-    pub unsafe fn mdf3_check(image: *const u8, image_len: usize, answer: *mut u8) -> u32 {
-        // SAFETY: as for the library, the caller lends both parts of memory.
-        let (image, answer) =
-            unsafe { (from_raw_parts(image, image_len), from_raw_parts_mut(answer, 32)) };
-        let (number, place) = match second::mdf::check(image) {
-            Ok(_) => (0, 0),
-            Err(refusal) => (refusal.number, refusal.place),
-        };
-        write([place, 0, 0, 0], answer);
-        number
-    }
-
-    pub unsafe fn mdf3_copy(
-        image: *const u8,
-        image_len: usize,
-        out: *mut u8,
-        out_len: usize,
-        answer: *mut u8,
-    ) -> u32 {
-        // SAFETY: as for the library, the caller lends three parts of memory.
-        let (image, out, answer) = unsafe {
-            (
-                from_raw_parts(image, image_len),
-                from_raw_parts_mut(out, out_len),
-                from_raw_parts_mut(answer, 32),
-            )
-        };
-        let found = compare::find(image);
-        let told = canonical::answer(compare::length_of(&found), out_len as u64);
-        if let (0, Ok(found)) = (told.number, &found) {
-            let mut end = 0;
-            canonical::pieces(&found.reading, |piece| {
-                out[end..end + piece.len()].copy_from_slice(piece);
-                end += piece.len();
-            });
-        }
-        write([told.place, told.value, 0, 0], answer);
-        told.number
-    }
-
-    unsafe fn ask(call: Call, image: (*const u8, usize), asked: Asked, answer: *mut u8) -> u32 {
-        // SAFETY: as for the library, the caller lends both parts of memory.
-        let (image, answer) =
-            unsafe { (from_raw_parts(image.0, image.1), from_raw_parts_mut(answer, 32)) };
-        let told = sample::answer(call, compare::reading_of(&compare::find(image)), asked);
-        write([told.place, told.value, told.length, told.kind], answer);
-        told.number
-    }
-
-    pub unsafe fn mdf3_sample(
-        image: *const u8,
-        image_len: usize,
-        group: u64,
-        channel: u64,
-        record: u64,
-        answer: *mut u8,
-    ) -> u32 {
-        let asked = Asked { group, channel, record };
-        // SAFETY: passed on.
-        unsafe { ask(Call::Sample, (image, image_len), asked, answer) }
-    }
-
-    pub unsafe fn mdf3_physical(
-        image: *const u8,
-        image_len: usize,
-        group: u64,
-        channel: u64,
-        record: u64,
-        answer: *mut u8,
-    ) -> u32 {
-        let asked = Asked { group, channel, record };
-        // SAFETY: passed on.
-        unsafe { ask(Call::Physical, (image, image_len), asked, answer) }
-    }
-}
+use second::calls::{
+    second_check as mdf3_check, second_copy as mdf3_copy, second_physical as mdf3_physical,
+    second_sample as mdf3_sample,
+};
 
 /// Lends an answer between two margins to a call; hands back the number and
 /// the answer's four numbers.

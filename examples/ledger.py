@@ -1,0 +1,91 @@
+#!/usr/bin/env python3
+"""A ledger line from a logged file, as ledger.c makes it, by ctypes.
+
+usage: ledger.py LIBRARY FILE GROUP CHANNEL
+
+LIBRARY is the shared library: make build/libmdf3.so
+"""
+import ctypes
+import struct
+import sys
+
+SIZE, COUNT = ctypes.c_size_t, ctypes.c_uint64
+
+
+class Refused(Exception):
+    """A refusal: number and place."""
+
+
+class Library:
+    def __init__(self, path):
+        calls = ctypes.CDLL(path)
+        self.calls = calls
+        for name, between in [
+            ("mdf3_check", []),
+            ("mdf3_copy", [ctypes.c_char_p, SIZE]),
+            ("mdf3_physical", [COUNT, COUNT, COUNT]),
+        ]:
+            call = getattr(calls, name)
+            call.restype = ctypes.c_uint32
+            call.argtypes = [ctypes.c_char_p, SIZE] + between + [ctypes.c_char_p]
+
+    def ask(self, name, image, *between):
+        """The number, and place, value, length and kind of the answer."""
+        answer = ctypes.create_string_buffer(32)
+        number = getattr(self.calls, name)(image, len(image), *between, answer)
+        return number, struct.unpack("<4Q", answer.raw)
+
+    def check(self, image):
+        number, answer = self.ask("mdf3_check", image)
+        if number != 0:
+            raise Refused(number, answer[0])
+
+    def copy(self, image):
+        # with no room, an image that can be copied gives 13 and the length needed
+        number, answer = self.ask("mdf3_copy", image, ctypes.create_string_buffer(1), 0)
+        if number != 13:
+            raise Refused(number, answer[0])
+        out = ctypes.create_string_buffer(answer[0])
+        number, answer = self.ask("mdf3_copy", image, out, len(out))
+        if number != 0:
+            raise Refused(number, answer[0])
+        return out.raw
+
+    def physical(self, image, group, channel, record):
+        number, answer = self.ask("mdf3_physical", image, group, channel, record)
+        if number != 0:
+            raise Refused(number, answer[0])
+        return struct.unpack("<d", struct.pack("<Q", answer[1]))[0]
+
+
+def post(library, image, group, channel):
+    """How many records there are, and their values added up."""
+    library.check(image)
+    kept = library.copy(image)
+    count, total = 0, 0.0
+    while True:
+        try:
+            total += library.physical(kept, group, channel, count)
+        except Refused as refused:
+            if refused.args[0] == 14 and count > 0:
+                return count, total
+            raise
+        count += 1
+
+
+def main():
+    if len(sys.argv) != 5:
+        sys.exit(__doc__)
+    name = sys.argv[2]
+    with open(name, "rb") as file:
+        image = file.read()
+    try:
+        count, total = post(Library(sys.argv[1]), image, int(sys.argv[3]), int(sys.argv[4]))
+    except Refused as refused:
+        print("%s: refused, %d at %d" % ((name,) + refused.args))
+        sys.exit(1)
+    print("%s: %d records, total %.2f" % (name, count, total))
+
+
+if __name__ == "__main__":
+    main()

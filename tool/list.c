@@ -1,0 +1,93 @@
+/* What a file holds, taken from its canonical copy: there the blocks have fixed sizes and stand one behind the other. */
+#include "mdf3.h"
+#include "tool.h"
+#include "words.h"
+
+#include <stdio.h>
+#include <string.h>
+
+static unsigned u16(const struct file *f, size_t at)
+{
+    return f->bytes[at] + 256u * f->bytes[at + 1];
+}
+
+static uint32_t u32(const struct file *f, size_t at)
+{
+    return u16(f, at) + 65536u * u16(f, at + 2);
+}
+
+/* A body behind a link field: its bytes after the block's head; NULL behind a nil link. */
+static const uint8_t *body(const struct file *f, size_t field, size_t *length)
+{
+    size_t at = u32(f, field);
+    *length = at == 0 ? 0 : u16(f, at + 2) - 4u;
+    return at == 0 ? NULL : f->bytes + at + 4;
+}
+
+/* The long name where there is one, else the short one. */
+static void print_name(const struct file *f, size_t cn)
+{
+    size_t length;
+    const uint8_t *name = body(f, cn + 218, &length);
+    if (name == NULL || length == 0 || name[0] == 0) {
+        name = f->bytes + cn + 26;
+        length = 32;
+    }
+    print_text(stdout, name, length);
+}
+
+/* A conversion holds the unit at 22, in 20 bytes. */
+static void print_unit(const struct file *f, size_t cn)
+{
+    size_t length;
+    const uint8_t *cc = body(f, cn + 8, &length);
+    if (cc == NULL || cc[22 - 4] == 0)
+        return;
+    printf(", unit ");
+    print_text(stdout, cc + 22 - 4, 20);
+}
+
+static void list_channel(const struct file *f, size_t cn, unsigned number)
+{
+    unsigned bits = u16(f, cn + 188);
+    printf("  channel %u: ", number);
+    print_name(f, cn);
+    printf(", %s%s, %u bit%s", u16(f, cn + 24) == 1 ? "time, " : "", type_name(u16(f, cn + 190)), bits, plural(bits));
+    print_unit(f, cn);
+    printf("\n");
+}
+
+static void list_group(const struct file *f, size_t dg, unsigned number)
+{
+    size_t cg = u32(f, dg + 8), cn;
+    unsigned channel = 0;
+    unsigned long records = u32(f, cg + 22);
+    unsigned size = u16(f, cg + 20), channels = u16(f, cg + 18);
+    printf("group %u: %lu record%s of %u byte%s, %u channel%s\n", number, records, plural(records), size, plural(size), channels,
+           plural(channels));
+    for (cn = u32(f, cg + 8); cn != 0; cn = u32(f, cn + 4))
+        list_channel(f, cn, channel++);
+}
+
+static void list_file(const char *name, const struct file *f)
+{
+    unsigned version = u16(f, 28), group = 0;
+    printf("%s: 0 0 version %u.%02u, %u group%s\n", name, version / 100, version % 100, u16(f, 64 + 16), plural(u16(f, 64 + 16)));
+    for (size_t dg = u32(f, 64 + 4); dg != 0; dg = u32(f, dg + 4))
+        list_group(f, dg, group++);
+}
+
+int list_command(const char *name)
+{
+    struct file image, copy;
+    int result = load_one(name, &image);
+    if (result != DONE)
+        return result;
+    result = copy_in_memory(name, &image, &copy);
+    unload(&image);
+    if (result != DONE)
+        return result;
+    list_file(name, &copy);
+    unload(&copy);
+    return DONE;
+}

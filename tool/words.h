@@ -1,0 +1,24 @@
+/* What the library's numbers mean, and texts of a file. */
+#ifndef WORDS_H
+#define WORDS_H
+
+#include <stddef.h>
+#include <stdint.h>
+#include <stdio.h>
+
+/* A number and its place in words. */
+const char *in_words(uint32_t number, uint64_t place);
+
+/* A number of an answer. */
+uint64_t number_at(const uint8_t *answer);
+
+/* Prints text of a file up to its first zero byte: ISO 8859-1 as UTF-8, what is no letter or sign as '?'. */
+void print_text(FILE *to, const uint8_t *text, size_t length);
+
+/* "s" behind a count that is not 1. */
+const char *plural(uint64_t count);
+
+/* The name of a data type. */
+const char *type_name(unsigned data_type);
+
+#endif
