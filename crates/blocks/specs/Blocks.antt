@@ -65,9 +65,9 @@ hdHead size first comment program groups =
 unfoldable pub hdBytes : ℕ → ℕ → ℕ → ℕ → ℕ → List ℕ → List ℕ → List ℕ
 hdBytes size first comment program groups plain later = (hdHead size first comment program groups ++ plain) ++ later
 
--- a block that is all body: its identifier by two characters
-abbrev pub blockHead : ℕ → ℕ → ℕ → List ℕ
-blockHead a b size = (a ∷ b ∷ []) ++ bytesOf 2 size
+-- a block that is all body: its identifier as a number of two bytes
+abbrev pub blockHead : ℕ → ℕ → List ℕ
+blockHead id size = bytesOf 2 id ++ bytesOf 2 size
 
-unfoldable pub blockBytes : ℕ → ℕ → List ℕ → List ℕ
-blockBytes a b bytes = (a ∷ b ∷ []) ++ (bytesOf 2 (4 + length bytes) ++ bytes)
+unfoldable pub blockBytes : ℕ → List ℕ → List ℕ
+blockBytes id bytes = bytesOf 2 id ++ (bytesOf 2 (4 + length bytes) ++ bytes)

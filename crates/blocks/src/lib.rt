@@ -1,11 +1,17 @@
 // Writes blocks over a lent slice, from a place on. A number is written by its low bytes.
+use image::Cc;
+use image::Ce;
 use image::Cg;
 use image::Cn;
 use image::Dg;
 use image::Hd;
+use image::Id;
+use image::Pr;
+use image::Tx;
 ghost use mathlib.Core.Path.{_≡_};
 ghost use Prim.Native.Nat.{_+_, _-_, _≤_};
 ghost use lib.ListN.{length, take, drop};
+ghost use Rattle.spec.specs.Block.{HD-written};
 ghost use Rattle.write.specs.Write.{Wrote, padded};
 ghost use Rattle.blocks.specs.Blocks.{dgParts, dgBytes, cgParts, cgBytes, cnHead, cnNames, cnBytes, hdHead, hdBytes, blockHead, blockBytes};
 
@@ -107,7 +113,26 @@ pub fn put_cg(
     write::put_all(out, at, &block);
 }
 
+// ---- ID: the first bytes of the image
+
+pub fn put_id(out: &mut [u8], image: &[u8])
+    requires { ⌜ (64 ≤ length (now out)) × (64 ≤ length (now image)) ⌝ }
+    ensures { λ _. ⌜ Wrote (now (out .entry)) (now (out .exit)) 0 (take 64 (drop 0 (now (image .entry)))) ⌝ }
+{
+    write::put_part(out, 0, image, 0, Id::WRITTEN);
+}
+
 // ---- CN and HD: links of their own, and bytes of the image
+
+// The size in which HD is written at this version.
+pub fn hd_size(version: usize) -> usize
+    ensures { λ r. ⌜ (r ≡ HD-written version) × (164 ≤ r) × (r ≤ 208) ⌝ }
+{
+    if version < 320 {
+        return Hd::WRITTEN;
+    }
+    Hd::WRITTEN_320
+}
 
 fn put_cn_head(out: &mut [u8], at: usize, next: usize, cc: usize, ce: usize, comment: usize)
     requires { ⌜ at + 24 ≤ length (now out) ⌝ }
@@ -240,19 +265,32 @@ pub fn put_hd(
 
 // ---- TX, PR, CC and CE: all body
 
-fn put_block_head(out: &mut [u8], at: usize, a: u8, b: u8, size: usize)
+pub const TX: u64 = Tx::ID;
+
+pub const PR: u64 = Pr::ID;
+
+pub const CC: u64 = Cc::ID;
+
+pub const CE: u64 = Ce::ID;
+
+fn put_block_head(out: &mut [u8], at: usize, id: u64, size: usize)
     requires { ⌜ at + 4 ≤ length (now out) ⌝ }
-    ensures { λ _. ⌜ Wrote (now (out .entry)) (now (out .exit)) at (blockHead a b size) ⌝ }
+    ensures { λ _. ⌜ Wrote (now (out .entry)) (now (out .exit)) at (blockHead id size) ⌝ }
 {
-    let head: [u8; 4] = [a, b, (size % 256) as u8, (size / 256 % 256) as u8];
+    let head: [u8; 4] = [
+        (id % 256) as u8,
+        (id / 256 % 256) as u8,
+        (size % 256) as u8,
+        (size / 256 % 256) as u8,
+    ];
     write::put_all(out, at, &head);
 }
 
 // A body of `len` bytes of `src` from `from` on.
-pub fn put_block(out: &mut [u8], at: usize, a: u8, b: u8, src: &[u8], from: usize, len: usize)
+pub fn put_block(out: &mut [u8], at: usize, id: u64, src: &[u8], from: usize, len: usize)
     requires { ⌜ (at + 4 + len ≤ length (now out)) × (len ≤ length (now src) - from) ⌝ }
-    ensures { λ _. ⌜ Wrote (now (out .entry)) (now (out .exit)) at (blockBytes a b (take len (drop from (now (src .entry))))) ⌝ }
+    ensures { λ _. ⌜ Wrote (now (out .entry)) (now (out .exit)) at (blockBytes id (take len (drop from (now (src .entry))))) ⌝ }
 {
-    put_block_head(out, at, a, b, 4 + len);
+    put_block_head(out, at, id, 4 + len);
     write::put_part(out, at + 4, src, from, len);
 }

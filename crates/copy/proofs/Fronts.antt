@@ -84,11 +84,3 @@ file-written image t s ok w₁ w₂ w₃ w₄ =
 pub length-by : (r : Reading) (first : ℕ) → first ≡ 64 + HD-written (version r) + bodyLength (r .comment) + bodyLength (r .program) → first + groupsLength (r .groups) ≡ copyLength r
 unfolding copyLength
 length-by r first e = ap (λ n. n + groupsLength (r .groups)) e
-
--- ---- the size of HD
-
-pub early-size : (v w : ℕ) → v ≡ w → v < 320 → 164 ≡ HD-written w
-early-size v w e h = rw (← e, lt-ltb v 320 h)
-
-pub late-size : (v w : ℕ) → v ≡ w → 320 ≤ v → 208 ≡ HD-written w
-late-size v w e h = rw (← e, le-ltb v 320 h)

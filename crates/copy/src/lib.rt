@@ -21,10 +21,7 @@ fn header_size(image: &[u8], f: File) -> usize
     requires { ⌜ AtFile (now image) f ⌝ }
     ensures { λ r. ⌜ (r ≡ HD-written (version (imageReading (now (image .entry))))) × (164 ≤ r) × (r ≤ 208) ⌝ }
 {
-    if f.version(image) < 320 {
-        return 164;
-    }
-    208
+    blocks::hd_size(f.version(image))
 }
 
 struct Front {
@@ -72,7 +69,7 @@ fn put_front(out: &mut [u8], image: &[u8], f: File, front: Front, count: usize)
     requires { ⌜ AtFile (now image) f × FrontIs (now image) front (imageReading (now image)) × (count ≡ length (imageReading (now image) .groups)) × (64 + front .size ≤ length (now out)) ⌝ }
     ensures { λ _. ⌜ Wrote (now (out .entry)) (now (out .exit)) 0 (frontAs (imageReading (now (image .entry)))) ⌝ }
 {
-    write::put_part(out, 0, image, 0, 64);
+    blocks::put_id(out, image);
     let part = f.fields(image);
     let size = front.size;
     let comment = front.comment;
@@ -103,9 +100,8 @@ fn put_file(out: &mut [u8], image: &[u8], f: File, count: usize)
     put_front(out, image, f, front, count);
     let comment = front.comment;
     let program = front.program;
-    // TX, then PR
-    put_channels::put_body(out, front.tx, image, comment, 84, 88);
-    put_channels::put_body(out, front.pr, image, program, 80, 82);
+    put_channels::put_body(out, front.tx, image, comment, blocks::TX);
+    put_channels::put_body(out, front.pr, image, program, blocks::PR);
     put_groups::put_groups(out, front.first, image, f.groups(image));
 }
 

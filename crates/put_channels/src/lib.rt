@@ -4,7 +4,7 @@ use reading::Channel;
 use reading::ChannelStep;
 use reading::Channels;
 ghost use mathlib.Core.Path.{_≡_};
-ghost use Prim.Native.Nat.{ℕ, _+_, _≤_, _<_};
+ghost use Prim.Native.Nat.{ℕ, _+_, _/_, _%_, _≤_, _<_};
 ghost use lib.ListN.{length};
 ghost use Rattle.write.specs.Write.{Wrote};
 ghost use Rattle.answers.specs.Copies.{linkToFirst, channelLength, channelsLength, channelsBytes};
@@ -35,15 +35,15 @@ pub fn body_link(body: Body, at: usize) -> usize
     at
 }
 
-// The block of a body, by the two characters of its identifier.
-pub fn put_body(out: &mut [u8], at: usize, image: &[u8], body: Body, a: u8, b: u8)
+// The block of a body, by its identifier.
+pub fn put_body(out: &mut [u8], at: usize, image: &[u8], body: Body, id: u64)
     requires { ⌜ BodyInside (now image) body × (at + spanLength body ≤ length (now out)) ⌝ }
-    ensures { λ _. ⌜ Wrote (now (out .entry)) (now (out .exit)) at (spanBytes a b (now (image .entry)) body) ⌝ }
+    ensures { λ _. ⌜ Wrote (now (out .entry)) (now (out .exit)) at (spanBytes (id % 256) (id / 256 % 256) (now (image .entry)) body) ⌝ }
 {
     let Body::Present(from, n) = body else {
         return;
     };
-    blocks::put_block(out, at, a, b, image, from, n);
+    blocks::put_block(out, at, id, image, from, n);
 }
 
 // A length and a number of parts, added up as far as the longest copy needs.
@@ -167,11 +167,11 @@ fn put_bodies(out: &mut [u8], at: usize, image: &[u8], b: Bodies, p: Places)
     let comment = b.comment;
     let long = b.long;
     let display = b.display;
-    put_body(out, p.cc, image, conversion, 67, 67);
-    put_body(out, p.ce, image, extension, 67, 69);
-    put_body(out, p.tx, image, comment, 84, 88);
-    put_body(out, p.long, image, long, 84, 88);
-    put_body(out, p.display, image, display, 84, 88);
+    put_body(out, p.cc, image, conversion, blocks::CC);
+    put_body(out, p.ce, image, extension, blocks::CE);
+    put_body(out, p.tx, image, comment, blocks::TX);
+    put_body(out, p.long, image, long, blocks::TX);
+    put_body(out, p.display, image, display, blocks::TX);
 }
 
 // A channel with its bodies, and the link to the next one.

@@ -72,8 +72,7 @@ fn put_group(out: &mut [u8], at: usize, image: &[u8], g: Group, next: usize)
     let sum = put_channels::channels_sum(image, g.channels(image));
     put_heads(out, at, image, g, comment, sum, next);
     let tx = at + 58;
-    // a TX block
-    put_channels::put_body(out, tx, image, comment, 84, 88);
+    put_channels::put_body(out, tx, image, comment, blocks::TX);
     let cn = tx + put_channels::body_length(comment);
     put_channels::put_channels(out, cn, image, g.channels(image));
     put_records::put_records(out, cn + sum.length, image, g);

@@ -5,8 +5,8 @@ use borrow.Author.Needs.{needs}
 use Rattle.copy.proofs.put_front.Statement.{statement}
 use Rattle.copy.proofs.put_front.Tie as tie
 
-put-part-requires : tie.Need-put-part-requires
-put-part-requires c κs = (omega (arith, c .before .before .before .pre .3), omega (arith, file-long _ _ (c .before .before .before .pre .0)))
+put-id-requires : tie.Need-put-id-requires
+put-id-requires c κs = (omega (arith, c .before .before .before .pre .3), omega (arith, file-long _ _ (c .before .before .before .pre .0)))
 
 fields-requires : tie.Need-fields-requires
 fields-requires c κs = search needs
@@ -30,13 +30,13 @@ returns : tie.Need-returns
 returns c =
     let a = c .before .before .before .before .before .before .before .before .before .before .before .before .before .before .args in
     let p = c .before .before .before .before .before .before .before .before .before .before .before .before .before .before .pre in
-    front-written (a .image .now) (a .f) (p .0) (header-as (a .image .now) (a .front) (p .1) _ _ _ _ _ (c .before .before .before .before .before .before .link-if .ensures) (c .before .before .before .before .before .body-link .ensures) (c .before .before .before .before .body-link2 .ensures) (p .2) (c .before .before .before .before .before .before .before .fields .ensures)) (c .before .before .before .before .before .before .before .before .before .before .put-part .ensures) (c .before .before .put-hd .ensures)
+    front-written (a .image .now) (a .f) (p .0) (header-as (a .image .now) (a .front) (p .1) _ _ _ _ _ (c .before .before .before .before .before .before .link-if .ensures) (c .before .before .before .before .before .body-link .ensures) (c .before .before .before .before .body-link2 .ensures) (p .2) (c .before .before .before .before .before .before .before .fields .ensures)) (c .before .before .before .before .before .before .before .before .before .before .put-id .ensures) (c .before .before .put-hd .ensures)
 
 pub put-front-spec : {M : Type 1} → statement M
 put-front-spec =
     tie.close
     (tie.spec
-    put-part-requires
+    put-id-requires
     fields-requires
     link-if-requires
     body-link-requires
