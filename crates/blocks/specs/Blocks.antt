@@ -2,7 +2,7 @@
 -- What is all numbers is an abbrev: the functions that write it by one array then need no proof file.
 -- Assumes nothing.
 use Prim.Native.Nat.{ℕ, _+_}
-use mathlib.Core.List.{List, [], _∷_, _++_}
+use mathlib.Core.List.{List, _++_}
 use lib.ListN.{length}
 use Rattle.spec.specs.Bytes.{bytesOf}
 use Rattle.spec.specs.Block.{identifier, HD, DG, CG, CN, DG-written, CG-written, CN-written}

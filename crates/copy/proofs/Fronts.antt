@@ -1,6 +1,6 @@
 -- The front of a copy, and the whole of it.
 -- Assumes nothing.
-use Prim.Native.Nat.{ℕ, _+_, _-_, _≤_, _<_}
+use Prim.Native.Nat.{ℕ, _+_, _-_}
 use mathlib.Core.Path.{_≡_, refl, sym, _∙_, ap}
 use mathlib.Core.List.{List, [], _++_, append-assoc, append-nil}
 use native.Mathlib.Omega.{arith}
@@ -12,7 +12,6 @@ use Rattle.blocks.specs.Blocks.{hdBytes}
 use Rattle.blocks.proofs.Written.{hd-written}
 use Rattle.write.specs.Write.{Wrote, then, wrote-as, padded}
 use lib.Seq.{length-take-le}
-use borrow.Author.Tests.{lt-ltb, le-ltb}
 use Rattle.reading.specs.declared.Part.{Part}
 use Rattle.reading.specs.declared.File.{File}
 use Rattle.reading.specs.Promise.{imageReading}

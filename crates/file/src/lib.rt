@@ -10,7 +10,7 @@ use image::Tx;
 use walk::Cursor;
 use walk::Walked;
 ghost use mathlib.Core.Path.{_≡_};
-ghost use Prim.Native.Nat.{ℕ, _+_, _≤_, _<_};
+ghost use Prim.Native.Nat.{_+_, _≤_, _<_};
 ghost use lib.ListN.{length, take};
 ghost use Rattle.spec.specs.Answer.{passed};
 ghost use Rattle.spec.specs.Block.{imageOf};

@@ -1,6 +1,6 @@
 // Numbers, blocks and their fields. A block may be looked for at any place; a byte beyond the image's end reads as 0.
 ghost use mathlib.Core.Path.{_≡_};
-ghost use Prim.Native.Nat.{ℕ, _+_, _^_, _≤_, _<_};
+ghost use Prim.Native.Nat.{_+_, _^_, _≤_, _<_};
 ghost use lib.ListN.{length, take, getD};
 ghost use Rattle.spec.specs.Bytes.{sameBytes, u16, u32, u64, toLink};
 ghost use Rattle.spec.specs.Block.{imageOf, opening, bodyAt, HD, DG, CG, CN, CC, TX, PR, CE};

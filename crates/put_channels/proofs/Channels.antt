@@ -74,7 +74,7 @@ module _ (image : List ℕ) (b : Bodies) (c : ReadChannel) (h : BodiesAre image 
       (span-bytes TX image (b .display) (h .display))
 
 -- the bytes of a channel by the definition
-pub channel-as : (at : ℕ) (next : Option ℕ) (c : ReadChannel) → channelBytes at next c ≡ channelAs at (target next) c
+channel-as : (at : ℕ) (next : Option ℕ) (c : ReadChannel) → channelBytes at next c ≡ channelAs at (target next) c
 unfolding channelBytes channelAs blockAs
 channel-as at next c =
     ap₂ _++_ (cn-written (cnOf at next c) refl) (flat (bodyBytes CC (c .conversion)) (bodyBytes CE (c .extension)) (bodyBytes TX (c .comment)) (bodyBytes TX (c .longName)) (bodyBytes TX (c .displayName)))
@@ -127,7 +127,7 @@ module _ (image : List ℕ) (at : ℕ) (b : Bodies) (p : Places) (x : Channel) (
       let f₅ = e₅ ∙ span-link image (p .display) (b .display) (h .display) in
       rw (f₁, f₂, f₃, f₄, f₅, q .cc, r .ce, r .tx, r .long, r .display, sym (m .main), sym (m .added))
 
-pub block-length : (size at next : ℕ) (c : ReadChannel) → WellFormedChannel size c → length (blockAs at next c) ≡ 228
+block-length : (size at next : ℕ) (c : ReadChannel) → WellFormedChannel size c → length (blockAs at next c) ≡ 228
 unfolding blockAs
 block-length size at next c ok = ap length (sym (cn-written (cnOf at (some next) c) refl)) ∙ length-cn (cnOf at (some next) c) (ok .fields .main) (ok .fields .added)
 

@@ -15,7 +15,7 @@ use Rattle.answers.proofs.Laws.{length-body}
 use Rattle.reading.specs.Steps.{bodyOf, BodyInside, BodyIs}
 use Rattle.put_channels.specs.Spans.{Small, spanLength, spanLink, spanBytes}
 
-pub part-length : (image : List ℕ) (at n : ℕ) → at + n ≤ length image → length (take n (drop at image)) ≡ n
+part-length : (image : List ℕ) (at n : ℕ) → at + n ≤ length image → length (take n (drop at image)) ≡ n
 part-length image at n h = length-take-le n (drop at image) (rw length-drop (omega arith))
 
 pub small-span : (image : List ℕ) (r : Body) → BodyInside image r → Small r

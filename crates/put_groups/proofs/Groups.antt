@@ -69,7 +69,7 @@ link-if p [] = refl
 link-if p (x ∷ xs) = refl
 
 -- the bytes of a group by the definition
-pub group-as : (at : ℕ) (next : Option ℕ) (g : ReadGroup) → groupBytes at next g ≡ groupAs at (target next) g
+group-as : (at : ℕ) (next : Option ℕ) (g : ReadGroup) → groupBytes at next g ≡ groupAs at (target next) g
 unfolding groupBytes groupAs headsAs
 group-as at next g =
     let e : at + 28 + 30 ≡ at + 58 = omega arith in
@@ -79,7 +79,7 @@ group-as at next g =
     rest : List ℕ
     rest = bodyBytes TX (g .comment) ++ (channelsBytes (at + 28 + 30 + bodyLength (g .comment)) (g .channels) ++ (join (g .records) ++ []))
 
-pub heads-length : (at next : ℕ) (g : ReadGroup) → length (headsAs at next g) ≡ 58
+heads-length : (at next : ℕ) (g : ReadGroup) → length (headsAs at next g) ≡ 58
 unfolding headsAs dgBytes cgBytes
 heads-length at next g = refl
 

@@ -19,11 +19,11 @@ use Rattle.image.proofs.Blocks.{not-nil, Stands, open-shut, open-open}
 use Rattle.walk.specs.Lists.{channelsFrom}
 
 -- what a step of the code says of the definition's answer
-pub went : {A : Type 0} (m : Answer A) → Go ≡ stepOf m → (a : A) × (m ≡ accepted a)
+went : {A : Type 0} (m : Answer A) → Go ≡ stepOf m → (a : A) × (m ≡ accepted a)
 went (refused n p) e = let z : _≡_ {A = ℕ} 0 1 = cc in absurd (omega arith)
 went (accepted a) e = (a, refl)
 
-pub stopped : {A : Type 0} (m : Answer A) (n p : ℕ) → Stop n p ≡ stepOf m → m ≡ refused n p
+stopped : {A : Type 0} (m : Answer A) (n p : ℕ) → Stop n p ≡ stepOf m → m ≡ refused n p
 stopped (refused n′ p′) n p e = cc
 stopped (accepted a) n p e = cc
 

@@ -26,7 +26,7 @@ use Rattle.walk.specs.Steps.{_then_, bodiesFirst, bodiesLast}
 
 -- ---- steps
 
-pub then-of : {A B : Type 0} (m : Answer A) (f : A → Answer B) (s : Step) → ((a : A) → stepOf (f a) ≡ s) → stepOf (m >>= f) ≡ (stepOf m then s)
+then-of : {A B : Type 0} (m : Answer A) (f : A → Answer B) (s : Step) → ((a : A) → stepOf (f a) ≡ s) → stepOf (m >>= f) ≡ (stepOf m then s)
 unfolding _>>=_ _then_
 then-of (refused n p) f s h = refl
 then-of (accepted a) f s h = h a
@@ -50,7 +50,7 @@ pub then-right : {a b s t : Step} → t ≡ a → t ≡ Go → s ≡ b → s ≡
 unfolding _then_
 then-right {b} e f h = h ∙ sym (ap (λ x. x then b) (sym e ∙ f))
 
-pub then-stops : {A B : Type 0} (m : Answer A) (f : A → Answer B) {n p : ℕ} → Stop n p ≡ stepOf m → stepOf (m >>= f) ≡ Stop n p
+then-stops : {A B : Type 0} (m : Answer A) (f : A → Answer B) {n p : ℕ} → Stop n p ≡ stepOf m → stepOf (m >>= f) ≡ Stop n p
 unfolding _>>=_
 then-stops (refused n p) f e = sym e
 then-stops (accepted a) f e = let z : _≡_ {A = ℕ} 0 1 = cc in absurd (omega arith)

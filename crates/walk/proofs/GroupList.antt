@@ -25,7 +25,7 @@ use Rattle.walk.specs.Lists.{channelsFrom, groupAt, slotIn, Summary, sum
 
 -- ---- steps and answers
 
-pub after-then : {A : Type 0} (a b : Step) (t : Answer A) → after (a then b) t ≡ after a (after b t)
+after-then : {A : Type 0} (a b : Step) (t : Answer A) → after (a then b) t ≡ after a (after b t)
 unfolding _then_ after
 after-then Go b t = refl
 after-then (Stop n p) b t = refl

@@ -29,7 +29,7 @@ slots-more (u ∷ xs) (v ∷ ys) (w ∷ zs) x y z a c =
     ap (λ ss. record { recordID = u; recordSize = v; recordCount = w } ∷ ss) (slots-more xs ys zs x y z (omega arith) (omega arith))
 
 -- the first n slots of a table
-abbrev pub firstSlots : ℕ → List ℕ → List ℕ → List ℕ → List Slot
+abbrev firstSlots : ℕ → List ℕ → List ℕ → List ℕ → List Slot
 firstSlots n xs ys zs = slotsOf (take n xs) (take n ys) (take n zs)
 
 module _ (xs ys zs : List ℕ) (t : Table xs ys zs) (n : ℕ) (h : n < 1024) where

@@ -1,5 +1,4 @@
 // Writes bytes over a lent slice, from a place on.
-ghost use mathlib.Core.Path.{_≡_};
 ghost use Prim.Native.Nat.{_+_, _-_, _≤_};
 ghost use lib.ListN.{length, take, drop, replicate};
 ghost use Rattle.write.specs.Write.{Wrote, padded};

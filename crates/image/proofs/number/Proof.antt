@@ -1,8 +1,8 @@
 use Rattle.image.proofs.Numbers.{number-turn, width-turn, width-small, number-past, number-none, width-pos}
 use Rattle.image.specs.Spans.{numberAt}
 use native.Mathlib.Omega.{arith}
-use mathlib.Core.Path.{_≡_, refl, sym, _∙_}
-use Prim.Native.Nat.{ℕ, _+_, _-_, _^_, _≤_, _<_}
+use mathlib.Core.Path.{_≡_, sym, _∙_}
+use Prim.Native.Nat.{_+_, _-_, _^_, _≤_, _<_}
 use borrow.Author.Needs.{needs}
 use Rattle.image.proofs.number.Statement.{statement}
 use Rattle.image.proofs.number.Tie as tie

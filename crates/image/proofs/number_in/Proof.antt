@@ -1,7 +1,7 @@
 use Rattle.image.proofs.Fields.{field-held, field-cut}
 use Rattle.image.proofs.Numbers.{width-pos}
 use native.Mathlib.Omega.{arith}
-use mathlib.Core.Path.{_≡_, sym, _∙_}
+use mathlib.Core.Path.{_∙_}
 use borrow.Author.Needs.{needs}
 use Rattle.image.proofs.number_in.Statement.{statement}
 use Rattle.image.proofs.number_in.Tie as tie

@@ -1,8 +1,6 @@
 use Rattle.image.proofs.Opening.{no-head, wrong-first, wrong-second, too-small, too-long, opens}
-use lib.ListN.{length, getD}
 use native.Mathlib.Omega.{arith}
-use mathlib.Core.Path.{_≡_, sym, _∙_}
-use Prim.Native.Nat.{_+_, _≤_}
+use mathlib.Core.Path.{sym, _∙_}
 use borrow.Author.Needs.{needs}
 use Rattle.image.proofs.open_block.Statement.{statement}
 use Rattle.image.proofs.open_block.Tie as tie

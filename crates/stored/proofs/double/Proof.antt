@@ -1,7 +1,7 @@
 use Rattle.answers.specs.Readings.{accepted}
 use Rattle.answers.specs.Samples.{double, storedAs}
 use Rattle.answers.proofs.Laws.{refuses, admits}
-use Rattle.stored.proofs.Storing.{pattern-is, fills-is, filled-width, filled-room}
+use Rattle.stored.proofs.Storing.{pattern-is, fills-is, filled-room}
 use mathlib.Core.Path.{sym, _∙_, ap}
 use native.Mathlib.Omega.{arith}
 use borrow.Author.Tests.{not-true, not-false}

@@ -3,7 +3,7 @@ use Rattle.spec.specs.Block.{readFields}
 use Rattle.image.proofs.ChannelFields.{start-is, bits-is}
 use Rattle.walk.proofs.Channels.{bits-none, bits-some}
 use denote.Ref.{now}
-use mathlib.Core.Path.{_≡_, sym, _∙_}
+use mathlib.Core.Path.{sym, _∙_}
 use borrow.Author.Needs.{needs}
 use Rattle.walk.proofs.bits_fit.Statement.{statement}
 use Rattle.walk.proofs.bits_fit.Tie as tie

@@ -1,6 +1,6 @@
 use Rattle.walk.proofs.Channels.{then-left, then-right, channel-steps}
 use Rattle.spec.specs.Block.{readCn}
-use mathlib.Core.Path.{_≡_, sym, _∙_}
+use mathlib.Core.Path.{sym, _∙_}
 use borrow.Author.Needs.{needs}
 use Rattle.walk.proofs.channel.Statement.{statement}
 use Rattle.walk.proofs.channel.Tie as tie

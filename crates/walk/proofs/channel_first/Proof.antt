@@ -1,7 +1,7 @@
 use Rattle.walk.proofs.Channels.{then-left, then-right, nil-go, nil-stop}
 use Rattle.walk.specs.Steps.{bodiesFirst}
 use Rattle.spec.specs.Block.{readCn}
-use mathlib.Core.Path.{_≡_, refl, sym, _∙_}
+use mathlib.Core.Path.{refl}
 use Prim.Native.Nat.{_+_}
 use borrow.Author.Needs.{needs}
 use Rattle.walk.proofs.channel_first.Statement.{statement}

@@ -2,10 +2,9 @@ use Rattle.walk.proofs.ChannelList.{channels-end, channels-full, channe
 use Rattle.walk.specs.Lists.{channelsFrom}
 use Rattle.image.proofs.Blocks.{stands}
 use Rattle.spec.specs.Block.{CN, imageOf}
-use denote.Ref.{now}
 use native.Mathlib.Omega.{arith}
-use mathlib.Core.Path.{_≡_, refl, sym, _∙_, ap}
-use Prim.Native.Nat.{_+_, _-_, _≤_, _<_}
+use mathlib.Core.Path.{_≡_, refl, sym, _∙_}
+use Prim.Native.Nat.{_-_, _≤_, _<_}
 use borrow.Author.Needs.{needs}
 use Rattle.walk.proofs.channel_list.Statement.{statement}
 use Rattle.walk.proofs.channel_list.Tie as tie

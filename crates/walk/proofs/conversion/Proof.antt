@@ -1,10 +1,8 @@
 use Rattle.walk.proofs.Channels.{conversion-none, conversion-shut, formula-links, formula-plain}
 use Rattle.image.proofs.Blocks.{stands}
-use Rattle.spec.specs.Block.{CC, imageOf}
-use denote.Ref.{now}
+use Rattle.spec.specs.Block.{CC}
 use native.Mathlib.Omega.{arith}
-use mathlib.Core.Path.{_≡_, sym, _∙_}
-use Prim.Native.Nat.{_+_, _≤_}
+use mathlib.Core.Path.{sym, _∙_}
 use borrow.Author.Needs.{needs}
 use Rattle.walk.proofs.conversion.Statement.{statement}
 use Rattle.walk.proofs.conversion.Tie as tie

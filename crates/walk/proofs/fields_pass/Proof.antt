@@ -1,11 +1,8 @@
 use Rattle.image.proofs.ChannelFields.{type-is, data-is}
 use Rattle.walk.proofs.Channels.{wrong-type, wrong-bits, wrong-data, fields-good}
-use Rattle.image.specs.Spans.{blockIn}
-use Rattle.spec.specs.Block.{readFields}
 use borrow.Author.Tests.{not-true, not-false}
-use denote.Ref.{now}
 use native.Mathlib.Omega.{arith}
-use mathlib.Core.Path.{_≡_, sym, _∙_}
+use mathlib.Core.Path.{sym, _∙_}
 use borrow.Author.Needs.{needs}
 use Rattle.walk.proofs.fields_pass.Statement.{statement}
 use Rattle.walk.proofs.fields_pass.Tie as tie

@@ -1,9 +1,7 @@
 use Rattle.walk.proofs.Groups.{group-stop, group-go}
-use Rattle.walk.specs.Lists.{channelsMet, OnlyChannels}
 use Rattle.spec.specs.Answer.{accepted}
 use native.Mathlib.Omega.{arith}
-use mathlib.Core.Path.{_≡_, refl, sym, _∙_, ap}
-use Prim.Native.Nat.{_+_, _≤_, _<_}
+use mathlib.Core.Path.{sym, _∙_, ap}
 use borrow.Author.Needs.{needs}
 use Rattle.walk.proofs.group.Statement.{statement}
 use Rattle.walk.proofs.group.Tie as tie

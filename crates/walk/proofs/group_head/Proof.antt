@@ -2,7 +2,7 @@ use Rattle.walk.proofs.Channels.{then-left, then-right, nil-go, nil-sto
 use Rattle.walk.specs.Steps.{groupHead}
 use Rattle.spec.specs.Block.{readCg}
 use borrow.Author.Tests.{not-true, not-false}
-use mathlib.Core.Path.{_≡_, refl, sym, _∙_}
+use mathlib.Core.Path.{refl, sym, _∙_}
 use Prim.Native.Nat.{_+_}
 use borrow.Author.Needs.{needs}
 use Rattle.walk.proofs.group_head.Statement.{statement}

@@ -1,16 +1,12 @@
-use Rattle.image.specs.Spans.{blockIn}
-use Rattle.spec.specs.Walk.{elem}
-use Rattle.spec.specs.Bytes.{u16, u32}
 use Rattle.walk.proofs.Tables.{Listing, listing-starts, listing-as, allowed-is, listing-goes, table-noted}
 use Rattle.walk.proofs.GroupList.{groups-end, groups-full, groups-second, groups-shut, groups-stop, groups-go}
 use Rattle.walk.specs.Lists.{Table}
 use Rattle.image.proofs.Blocks.{stands}
 use Rattle.spec.specs.Block.{CG, imageOf}
 use borrow.Author.Tests.{not-true, not-false}
-use denote.Ref.{now}
 use native.Mathlib.Omega.{arith}
-use mathlib.Core.Path.{_≡_, refl, sym, _∙_, ap}
-use Prim.Native.Nat.{_+_, _-_, _≤_, _<_}
+use mathlib.Core.Path.{_≡_, refl, sym, _∙_}
+use Prim.Native.Nat.{_-_, _≤_, _<_}
 use borrow.Author.Needs.{needs}
 use Rattle.walk.proofs.group_list.Statement.{statement}
 use Rattle.walk.proofs.group_list.Tie as tie

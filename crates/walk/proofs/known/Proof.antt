@@ -3,7 +3,7 @@ use Rattle.spec.specs.Walk.{elem}
 use lib.ListN.{take, drop}
 use denote.Ref.{now}
 use native.Mathlib.Omega.{arith}
-use mathlib.Core.Path.{_≡_, refl, sym, _∙_, ap}
+use mathlib.Core.Path.{_≡_, refl, sym, _∙_}
 use Prim.Native.Nat.{_-_, _≤_}
 use borrow.Author.Needs.{needs}
 use Rattle.walk.proofs.known.Statement.{statement}
