@@ -36,7 +36,10 @@ install: all
 test:
 	.ci/run
 
-demo: all
+# installs a C compiler where there is none
+demo:
+	@tests/needs $(firstword $(CC))
+	@$(MAKE) --no-print-directory all
 	@examples/demo
 
 bench:
