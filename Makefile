@@ -6,30 +6,29 @@ WARNINGS = -std=c99 -Wall -Wextra -Werror -pedantic
 VERSION = $(shell sed -n 's/^\#define MDF3_VERSION "\(.*\)"$$/\1/p' include/mdf3.h)
 SOURCES = $(wildcard tool/*.c)
 
-all: build/libmdf3.a build/mdf3 build/mdf3.pc
+all: build/libmdf3.a build/mdf3
 
-# rt knows what has changed since it was last proved
-build/libmdf3.a: always
+build/libmdf3.a: crates.txt $(shell find crates -type f)
 	@mkdir -p build
 	@[ -e $@ ] || echo 'The library is proved and built: a few minutes, the first time.'
 	@rt staticlib mdf3 >build/rt.log 2>&1 || { cat build/rt.log >&2; exit 1; }
-	@cmp -s target/staticlib/libmdf3.a $@ || cp target/staticlib/libmdf3.a $@
+	@cp target/staticlib/libmdf3.a $@
 
 build/mdf3: $(SOURCES) $(wildcard tool/*.h) include/mdf3.h build/libmdf3.a
 	$(CC) $(WARNINGS) $(CFLAGS) $(LDFLAGS) -Iinclude $(SOURCES) build/libmdf3.a -o $@
-
-build/mdf3.pc: tool/mdf3.pc.in include/mdf3.h always
-	@sed -e 's|@PREFIX@|$(PREFIX)|' -e 's|@VERSION@|$(VERSION)|' $< >$@
 
 # for programs that load libraries, as Python does
 build/libmdf3.so: build/libmdf3.a
 	$(CC) -shared -Wl,--whole-archive $< -Wl,--no-whole-archive -o $@
 
-install: all
+# what is built; where nothing is, it is built first. So it needs no rt, nor writes here, where another user installs.
+install:
+	@[ -e build/libmdf3.a ] && [ -e build/mdf3 ] || $(MAKE) --no-print-directory all
 	install -d $(DESTDIR)$(PREFIX)/include $(DESTDIR)$(PREFIX)/lib/pkgconfig $(DESTDIR)$(PREFIX)/bin $(DESTDIR)$(PREFIX)/share/man/man1
 	install -m 644 include/mdf3.h $(DESTDIR)$(PREFIX)/include/
 	install -m 644 build/libmdf3.a $(DESTDIR)$(PREFIX)/lib/
-	install -m 644 build/mdf3.pc $(DESTDIR)$(PREFIX)/lib/pkgconfig/
+	sed -e 's|@PREFIX@|$(PREFIX)|' -e 's|@VERSION@|$(VERSION)|' tool/mdf3.pc.in >$(DESTDIR)$(PREFIX)/lib/pkgconfig/mdf3.pc
+	chmod 644 $(DESTDIR)$(PREFIX)/lib/pkgconfig/mdf3.pc
 	install -m 755 build/mdf3 $(DESTDIR)$(PREFIX)/bin/
 	install -m 644 tool/mdf3.1 $(DESTDIR)$(PREFIX)/share/man/man1/
 
@@ -40,7 +39,7 @@ test:
 demo:
 	@tests/needs $(firstword $(CC))
 	@$(MAKE) --no-print-directory all
-	@examples/demo
+	@CC='$(CC)' examples/demo
 
 bench:
 	bench/run
@@ -51,4 +50,4 @@ fuzz:
 clean:
 	rm -rf build
 
-.PHONY: all always install test demo bench fuzz clean
+.PHONY: all install test demo bench fuzz clean

@@ -3,12 +3,22 @@
  *   ledger FILE GROUP CHANNEL
  *
  * Nothing has to be checked first: every call checks the image itself and says what is wrong with it. The check here only
- * comes early, and the copy is what one would keep: one form for all files that say the same. This is C99 and C++. */
+ * comes early, and the copy is what one would keep: one form for all files that say the same. The exit status is 0 for a
+ * line that can be posted, 1 for a file that is refused, 2 for an argument, a file or memory that failed.
+ *
+ * Every call checks the whole image, so a channel of n records costs n checks: fine for small files. This is C99 and C++. */
 #include "mdf3.h"
 
+#include <errno.h>
 #include <stdio.h>
 #include <stdlib.h>
 #include <string.h>
+
+static int trouble(const char *name, const char *what)
+{
+    fprintf(stderr, "%s: %s\n", name, what);
+    return 2;
+}
 
 /* The whole file; NULL where it cannot be read. */
 static uint8_t *load(const char *name, size_t *length)
@@ -19,12 +29,25 @@ static uint8_t *load(const char *name, size_t *length)
     if (f == NULL)
         return NULL;
     if (fseek(f, 0, SEEK_END) == 0 && (end = ftell(f)) >= 0 && fseek(f, 0, SEEK_SET) == 0) {
+        *length = (size_t)end;
         /* one byte more, so that an empty file has a pointer too */
-        bytes = (uint8_t *)malloc((size_t)end + 1);
-        *length = bytes == NULL ? 0 : fread(bytes, 1, (size_t)end, f);
+        bytes = (uint8_t *)malloc(*length + 1);
+        if (bytes != NULL && fread(bytes, 1, *length, f) != *length) {
+            free(bytes);
+            bytes = NULL;
+        }
     }
     fclose(f);
     return bytes;
+}
+
+/* A number in decimal digits alone. */
+static int read_number(const char *text, uint64_t *number)
+{
+    char *end;
+    errno = 0;
+    *number = strtoull(text, &end, 10);
+    return text[0] >= '0' && text[0] <= '9' && *end == '\0' && errno == 0;
 }
 
 /* One of the four numbers of an answer. */
@@ -42,7 +65,7 @@ static int refused(const char *name, uint32_t number, const uint8_t *answer)
     return 1;
 }
 
-/* Adds up until there are no more records. The last number is 14, or why a value cannot be posted. */
+/* Adds up until there are no more records. The last number is MDF3_NO_SUCH, or why a value cannot be posted. */
 static uint32_t add_up(const uint8_t *image, size_t length, uint64_t group, uint64_t channel, uint8_t *answer,
                        uint64_t *count, double *total)
 {
@@ -51,7 +74,7 @@ static uint32_t add_up(const uint8_t *image, size_t length, uint64_t group, uint
         uint64_t bits;
         double value;
         number = mdf3_physical(image, length, group, channel, *count, answer);
-        if (number != 0)
+        if (number != MDF3_OK)
             return number;
         bits = number_at(answer + 8);
         memcpy(&value, &bits, sizeof value);
@@ -59,55 +82,53 @@ static uint32_t add_up(const uint8_t *image, size_t length, uint64_t group, uint
     }
 }
 
-/* The canonical copy, in memory of its own. */
-static uint8_t *copy(const uint8_t *image, size_t length, uint32_t *number, uint8_t *answer, size_t *room)
+static int post_copy(const char *name, const uint8_t *copy, size_t length, uint64_t group, uint64_t channel)
 {
-    uint8_t none, *out;
-    *number = mdf3_copy(image, length, &none, 0, answer);
-    if (*number != 13)
-        return NULL;
-    *room = (size_t)number_at(answer);
-    out = (uint8_t *)malloc(*room);
-    if (out != NULL)
-        *number = mdf3_copy(image, length, out, *room, answer);
-    return out;
-}
-
-static int post(const char *name, const uint8_t *image, size_t length, uint64_t group, uint64_t channel)
-{
-    uint8_t answer[MDF3_ANSWER_SIZE], *kept;
-    uint32_t number = mdf3_check(image, length, answer);
+    uint8_t answer[MDF3_ANSWER_SIZE];
     uint64_t count;
-    size_t room = 0;
     double total = 0;
-    if (number != 0)
-        return refused(name, number, answer);
-    kept = copy(image, length, &number, answer, &room);
-    if (kept == NULL)
-        return refused(name, number, answer);
-    number = add_up(kept, room, group, channel, answer, &count, &total);
-    free(kept);
-    if (number != 14 || count == 0)
+    uint32_t number = add_up(copy, length, group, channel, answer, &count, &total);
+    if (number != MDF3_NO_SUCH || count == 0)
         return refused(name, number, answer);
     printf("%s: %llu records, total %.2f\n", name, (unsigned long long)count, total);
     return 0;
 }
 
+/* Posts from the canonical copy, in memory of its own. */
+static int post(const char *name, const uint8_t *image, size_t length, uint64_t group, uint64_t channel)
+{
+    uint8_t answer[MDF3_ANSWER_SIZE], none, *copy;
+    size_t room;
+    int result;
+    uint32_t number = mdf3_check(image, length, answer);
+    if (number != MDF3_OK)
+        return refused(name, number, answer);
+    /* with no room, an image that can be copied gives the length needed */
+    number = mdf3_copy(image, length, &none, 0, answer);
+    if (number != MDF3_NO_ROOM)
+        return refused(name, number, answer);
+    room = (size_t)number_at(answer);
+    copy = (uint8_t *)malloc(room);
+    if (copy == NULL)
+        return trouble(name, "no memory for its copy");
+    number = mdf3_copy(image, length, copy, room, answer);
+    result = number == MDF3_OK ? post_copy(name, copy, room, group, channel) : refused(name, number, answer);
+    free(copy);
+    return result;
+}
+
 int main(int argc, char **argv)
 {
     size_t length = 0;
+    uint64_t group, channel;
     uint8_t *image;
     int result;
-    if (argc != 4) {
-        fprintf(stderr, "usage: ledger FILE GROUP CHANNEL\n");
-        return 2;
-    }
+    if (argc != 4 || !read_number(argv[2], &group) || !read_number(argv[3], &channel))
+        return trouble("usage", "ledger FILE GROUP CHANNEL");
     image = load(argv[1], &length);
-    if (image == NULL) {
-        fprintf(stderr, "%s: cannot be read\n", argv[1]);
-        return 2;
-    }
-    result = post(argv[1], image, length, strtoull(argv[2], NULL, 10), strtoull(argv[3], NULL, 10));
+    if (image == NULL)
+        return trouble(argv[1], "cannot be read");
+    result = post(argv[1], image, length, group, channel);
     free(image);
     return result;
 }

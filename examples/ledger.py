@@ -11,6 +11,9 @@ import sys
 
 SIZE, COUNT = ctypes.c_size_t, ctypes.c_uint64
 
+# numbers of mdf3.h
+OK, NO_ROOM, NO_SUCH = 0, 13, 14
+
 
 class Refused(Exception):
     """A refusal: number and place."""
@@ -37,23 +40,23 @@ class Library:
 
     def check(self, image):
         number, answer = self.ask("mdf3_check", image)
-        if number != 0:
+        if number != OK:
             raise Refused(number, answer[0])
 
     def copy(self, image):
-        # with no room, an image that can be copied gives 13 and the length needed
+        # with no room, an image that can be copied gives the length needed
         number, answer = self.ask("mdf3_copy", image, ctypes.create_string_buffer(1), 0)
-        if number != 13:
+        if number != NO_ROOM:
             raise Refused(number, answer[0])
         out = ctypes.create_string_buffer(answer[0])
         number, answer = self.ask("mdf3_copy", image, out, len(out))
-        if number != 0:
+        if number != OK:
             raise Refused(number, answer[0])
         return out.raw
 
     def physical(self, image, group, channel, record):
         number, answer = self.ask("mdf3_physical", image, group, channel, record)
-        if number != 0:
+        if number != OK:
             raise Refused(number, answer[0])
         return struct.unpack("<d", struct.pack("<Q", answer[1]))[0]
 
@@ -67,20 +70,37 @@ def post(library, image, group, channel):
         try:
             total += library.physical(kept, group, channel, count)
         except Refused as refused:
-            if refused.args[0] == 14 and count > 0:
+            if refused.args[0] == NO_SUCH and count > 0:
                 return count, total
             raise
         count += 1
 
 
+def read_number(text):
+    """A number in decimal digits alone, of 64 bits."""
+    if not (text.isascii() and text.isdigit()) or int(text) >= 2**64:
+        raise ValueError(text)
+    return int(text)
+
+
+def trouble(what):
+    print(what, file=sys.stderr)
+    sys.exit(2)
+
+
 def main():
-    if len(sys.argv) != 5:
-        sys.exit(__doc__)
-    name = sys.argv[2]
-    with open(name, "rb") as file:
-        image = file.read()
     try:
-        count, total = post(Library(sys.argv[1]), image, int(sys.argv[3]), int(sys.argv[4]))
+        path, name, group, channel = sys.argv[1:]
+        group, channel = read_number(group), read_number(channel)
+    except ValueError:
+        trouble("usage: ledger.py LIBRARY FILE GROUP CHANNEL")
+    try:
+        with open(name, "rb") as file:
+            image = file.read()
+    except OSError:
+        trouble("%s: cannot be read" % name)
+    try:
+        count, total = post(Library(path), image, group, channel)
     except Refused as refused:
         print("%s: refused, %d at %d" % ((name,) + refused.args))
         sys.exit(1)

@@ -25,6 +25,11 @@ extern "C" {
     ) -> u32;
 }
 
+// Numbers of mdf3.h.
+const OK: u32 = 0;
+const NO_ROOM: u32 = 13;
+const NO_SUCH: u32 = 14;
+
 /// A refusal: number and place.
 struct Refused(u32, u64);
 
@@ -43,7 +48,7 @@ fn ask(call: impl FnOnce(*mut u8) -> u32) -> (u32, Answer) {
 fn check(image: &[u8]) -> Result<(), Refused> {
     // SAFETY: image and answer are lent for the call, with their lengths.
     let (number, answer) = ask(|a| unsafe { mdf3_check(image.as_ptr(), image.len(), a) });
-    if number == 0 { Ok(()) } else { Err(Refused(number, number_at(&answer, 0))) }
+    if number == OK { Ok(()) } else { Err(Refused(number, number_at(&answer, 0))) }
 }
 
 fn copy_into(image: &[u8], out: &mut [u8]) -> (u32, Answer) {
@@ -53,14 +58,14 @@ fn copy_into(image: &[u8], out: &mut [u8]) -> (u32, Answer) {
 }
 
 fn copy(image: &[u8]) -> Result<Vec<u8>, Refused> {
-    // With no room, an image that can be copied gives 13 and the length needed.
+    // With no room, an image that can be copied gives the length needed.
     let (number, answer) = copy_into(image, &mut []);
-    if number != 13 {
+    if number != NO_ROOM {
         return Err(Refused(number, number_at(&answer, 0)));
     }
     let mut out = vec![0; number_at(&answer, 0) as usize];
     match copy_into(image, &mut out) {
-        (0, _) => Ok(out),
+        (OK, _) => Ok(out),
         (number, answer) => Err(Refused(number, number_at(&answer, 0))),
     }
 }
@@ -70,7 +75,7 @@ fn physical(image: &[u8], group: u64, channel: u64, record: u64) -> Result<f64, 
     let (number, answer) =
         ask(|a| unsafe { mdf3_physical(image.as_ptr(), image.len(), group, channel, record, a) });
     match number {
-        0 => Ok(f64::from_bits(number_at(&answer, 8))),
+        OK => Ok(f64::from_bits(number_at(&answer, 8))),
         _ => Err(Refused(number, number_at(&answer, 0))),
     }
 }
@@ -83,21 +88,32 @@ fn post(image: &[u8], group: u64, channel: u64) -> Result<(u64, f64), Refused> {
     loop {
         match physical(&kept, group, channel, count) {
             Ok(value) => total += value,
-            Err(Refused(14, _)) if count > 0 => return Ok((count, total)),
+            Err(Refused(NO_SUCH, _)) if count > 0 => return Ok((count, total)),
             Err(refused) => return Err(refused),
         }
         count += 1;
     }
 }
 
+/// FILE GROUP CHANNEL; the numbers in decimal digits alone.
+fn arguments() -> Option<(String, u64, u64)> {
+    let number = |word: &String| match word.starts_with('+') {
+        false => word.parse().ok(),
+        true => None,
+    };
+    let words: Vec<String> = env::args_os().skip(1).map(|word| word.into_string()).collect::<Result<_, _>>().ok()?;
+    match &words[..] {
+        [name, group, channel] => Some((name.clone(), number(group)?, number(channel)?)),
+        _ => None,
+    }
+}
+
 fn main() -> ExitCode {
-    let words: Vec<String> = env::args().skip(1).collect();
-    let numbers: Vec<u64> = words.iter().skip(1).filter_map(|word| word.parse().ok()).collect();
-    let (Some(name), &[group, channel]) = (words.first(), &numbers[..]) else {
+    let Some((name, group, channel)) = arguments() else {
         eprintln!("usage: ledger FILE GROUP CHANNEL");
         return ExitCode::from(2);
     };
-    let Ok(image) = fs::read(name) else {
+    let Ok(image) = fs::read(&name) else {
         eprintln!("{name}: cannot be read");
         return ExitCode::from(2);
     };

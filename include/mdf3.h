@@ -1,10 +1,12 @@
-/* Grousepenny: MDF 3 files (versions 3.00 to 3.31) in memory.
+/* Grousepenny: MDF 3 files in memory. The format is that of MDF 3.0 to 3.31;
+ * files that call themselves 3.00 to 3.99 are taken.
  *
  * Every call ends, for any bytes and any numbers. It returns one of the
  * numbers below and fills an answer of 32 bytes. No call keeps a pointer,
  * allocates memory, reads a clock or a file, or has a state: calls from
  * several threads at once are fine as long as no memory that one of them
- * writes is used by another.
+ * writes is used by another. Every call checks the whole image, so reading a
+ * channel record by record costs a check of the file for each record.
  *
  * What the caller must keep, for each call:
  *   - image points to image_len bytes that can be read, and that nobody
@@ -17,7 +19,11 @@
  *     it may point anywhere, and must not be NULL.
  *   - answer points to 32 bytes that can be written, and that nobody else
  *     uses before the call returns.
- *   - image, out and answer do not overlap each other.
+ *   - image, out and answer do not overlap each other. None of them has to be
+ *     aligned.
+ *   - for mdf3_physical, the floating-point unit is as a program finds it at
+ *     its start: it rounds to the nearest, keeps subnormal numbers (no flush
+ *     to zero, which -ffast-math sets) and traps nothing.
  * Less than 16 KB of stack is used.
  *
  * The archive is built for x86-64 Linux.
@@ -34,65 +40,77 @@
 extern "C" {
 #endif
 
-/* The numbers that calls return. With each the answer holds one place: an
- * offset in the image, except where another meaning is given. The first
- * fault in the order of docs/RULES.md decides, and there is never more
- * than one. Check gives 0 to 11, copy 0 to 13, a sample 0 to 11, 14 and 15,
- * a physical value these and 16.
- *
- *    0  done. The place is 0.
- *    1  the image is longer than 2,147,483,647 bytes. Place 0.
- *    2  the image is shorter than 64 bytes, or begins neither with "MDF" and
- *       five spaces nor as in 3. Place 0.
- *    3  the image begins with "UnFinMF" and a space: its logger did not
- *       finalize it. Place 0.
- *    4  byte order or float format is not 0, or the version is not 300 to
- *       399: the place of that field (24, 26, 28).
- *    5  a link leads to no block of the kind wanted: it points outside, the
- *       identifier is another, the size is too small for the kind, or the
- *       block runs past the end. The place of the link field; 64 for the
- *       header block.
- *    6  something that is not supported. A trigger, a sample reduction or a
- *       channel dependency: the place of that link field. A conversion of
- *       formula 12: the place of its formula field.
- *    7  more than 1,024 data groups, 1,024 channel groups or 16,384
- *       channels in the file: the place of the link field that leads to
- *       the first one too many. Lists without an end are caught here,
- *       those of channel groups here or by 8.
- *    8  record IDs. More than two ID bytes: the place of that field in the
- *       data group. A second channel group where records have no IDs: the
- *       link field that leads to it. Where records have IDs, an ID above 255 or
- *       used by an earlier channel group of the data group: the place of
- *       the ID.
- *    9  a channel of unknown type, with bits outside its record, or of
- *       unknown data type: the place of the type, of the start bit, or of
- *       the data type.
- *   10  a channel group has record size 0, though its record count is not
- *       0: the place of the record size.
- *   11  records. Some are due and the data link is nil: the place of that
- *       link field. Otherwise one of them is at fault, and its place is
- *       that of its ID, or of its first byte where it has none: no channel
- *       group has this ID, or the group has its full count already, or the
- *       image ends before the record and its IDs do, or the ID behind the
- *       record is not the one before it. The first such record counts.
- *   12  the canonical copy would be longer than 2,147,483,647 bytes.
- *       Place 0.
- *   13  the output is shorter than the canonical copy: the length needed
- *       stands in the place.
- *   14  no such channel group, no such channel of it or no such record of
- *       it. Place 0.
- *   15  the sample cannot be read: the place of the channel's data type. The
- *       channel has no bits; an integer takes more than 64 bits, with those
- *       below it in its first byte; a float has another width than its type
- *       says, or does not begin with a byte; text or bytes do not begin with
- *       a byte or are no whole number of them; the data type is a VAX float
- *       (4 to 6).
- *   16  the sample has no physical value. Place 0. It is text, bytes or a
- *       32-bit float; an integer above 9,007,199,254,740,992 or below its
- *       negative; the conversion is neither linear (formula 0, in a block
- *       that holds both parameters) nor one to one (65535); or the number,
- *       a parameter or the result is infinite or no number.
- */
+/* The numbers that calls return. With each the answer holds one place, which
+ * is an offset in the image except where another meaning is given. The first
+ * fault in the order of section 5.2 of the rules (docs/RULES.md in the source)
+ * decides, and there is never more than one. Check gives 0 to 11, copy 0 to
+ * 13, a sample 0 to 11, 14 and 15, a physical value these and 16. */
+
+/* Done. Place 0. */
+#define MDF3_OK 0
+/* The image is longer than 2,147,483,647 bytes. Place 0. */
+#define MDF3_TOO_LONG 1
+/* The image is shorter than 64 bytes, or begins neither with "MDF" and five
+ * spaces nor as in 3. Place 0. */
+#define MDF3_NO_MDF 2
+/* The image begins with "UnFinMF" and a space: its logger did not finalize
+ * it. Place 0. */
+#define MDF3_UNFINALIZED 3
+/* Byte order or float format is not 0, or the version is not 300 to 399: the
+ * place of that field (24, 26, 28). */
+#define MDF3_IDENTIFICATION 4
+/* A link leads to no block of the kind wanted: it points outside, the
+ * identifier is another, the size is too small for the kind, or the block runs
+ * past the end. The place of the link field; 64 for the header block. */
+#define MDF3_LINK 5
+/* Something that is not supported. A trigger, a sample reduction or a channel
+ * dependency: the place of that link field. A conversion of formula 12: the
+ * place of its formula field. */
+#define MDF3_UNSUPPORTED 6
+/* More than 1,024 data groups, 1,024 channel groups or 16,384 channels in the
+ * file: the place of the link field that leads to the first one too many.
+ * Lists without an end are caught here, those of channel groups here or by
+ * 8. */
+#define MDF3_TOO_MANY 7
+/* Record IDs. More than two ID bytes: the place of that field in the data
+ * group. A second channel group where records have no IDs: the link field that
+ * leads to it. Where records have IDs, an ID above 255 or used by an earlier
+ * channel group of the data group: the place of the ID. */
+#define MDF3_RECORD_ID 8
+/* A channel of unknown type, with bits outside its record, or of unknown data
+ * type: the place of the type, of the start bit, or of the data type. */
+#define MDF3_CHANNEL 9
+/* A channel group has record size 0, though its record count is not 0: the
+ * place of the record size. */
+#define MDF3_RECORD_SIZE 10
+/* Records. Some are due and the data link is nil: the place of that link
+ * field. Otherwise one of them is at fault, and its place is that of its ID,
+ * or of its first byte where it has none: no channel group has this ID, or the
+ * group has its full count already, or the image ends before the record and
+ * its IDs do, or the ID behind the record is not the one before it. The first
+ * such record counts. Where it is missing, its place can be the length of the
+ * image or more. */
+#define MDF3_RECORD 11
+/* The canonical copy would be longer than 2,147,483,647 bytes. Place 0. */
+#define MDF3_COPY_TOO_LONG 12
+/* The output is shorter than the canonical copy: the length needed stands in
+ * the place. */
+#define MDF3_NO_ROOM 13
+/* No such channel group, no such channel of it or no such record of it.
+ * Place 0. */
+#define MDF3_NO_SUCH 14
+/* The sample cannot be read: the place of the channel's data type. The channel
+ * has no bits; an integer takes more than 64 bits, with those below it in its
+ * first byte; a float has another width than its type says, or does not begin
+ * with a byte; text or bytes do not begin with a byte or are no whole number of
+ * them; the data type is a VAX float (4 to 6). */
+#define MDF3_NO_SAMPLE 15
+/* The sample has no physical value. Place 0. It is text, bytes or a 32-bit
+ * float; an integer above 9,007,199,254,740,992 or below its negative; the
+ * conversion is neither linear (formula 0, in a block that holds both
+ * parameters) nor one to one (65535); or the number, a parameter or the result
+ * is infinite or no number. */
+#define MDF3_NO_PHYSICAL 16
 
 /* The answer: four numbers of 64 bits, lowest byte first.
  *
@@ -119,6 +137,11 @@ uint32_t mdf3_check(const uint8_t *image, size_t image_len, uint8_t answer[MDF3_
  * that is the length needed, so a call with out_len 0 tells how much room
  * to make. It can be far more than the image has, since what is shared
  * there is written once for every use. Length and kind are 0.
+ *
+ * In a copy every block has the size of its kind and stands where the rules'
+ * section 4 says, so the numbers of groups, channels and records and the names
+ * of channels can be read from it by following its links; tool/list.c in the
+ * source does so.
  */
 uint32_t mdf3_copy(const uint8_t *image, size_t image_len, uint8_t *out, size_t out_len,
                    uint8_t answer[MDF3_ANSWER_SIZE]);
@@ -133,8 +156,7 @@ uint32_t mdf3_copy(const uint8_t *image, size_t image_len, uint8_t *out, size_t 
 /* The sample of a channel in a record, as it is stored: returns 0, or 1 to 11,
  * 14 or 15. Channel groups, channels of a group and records of a group are
  * counted from 0, the groups over all data groups in the order of the links;
- * any numbers may be given. The image need not have been checked before: every
- * call checks all of it.
+ * any numbers may be given. The image need not have been checked before.
  *
  * Done: the kind is one of those above. The value is, for an unsigned number,
  * the number; for a signed one, its two's complement in 64 bits; for a 32-bit

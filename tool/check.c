@@ -46,7 +46,7 @@ static void check_one(const char *name, struct sum *s)
 {
     uint8_t answer[MDF3_ANSWER_SIZE];
     struct file f;
-    uint32_t number = 1;
+    uint32_t number = MDF3_TOO_LONG;
     uint64_t place = 0;
     switch (load(name, &f)) {
     case LOADED:
@@ -57,21 +57,33 @@ static void check_one(const char *name, struct sum *s)
     case TOO_LONG:
         break;
     default:
-        printf("%s: not read: %s\n", name, strerror(errno));
+        print_name(stdout, name);
+        printf(": not read: %s\n", strerror(errno));
         s->unread++;
         return;
     }
     print_line(name, number, place);
-    if (number == 0)
+    if (number == MDF3_OK)
         s->accepted++;
     else
         s->refused++;
+}
+
+/* Standard input has an end, and nothing behind it. */
+static int named_twice(int count, char **names)
+{
+    int times = 0;
+    for (int i = 0; i < count; i++)
+        times += strcmp(names[i], "-") == 0;
+    return times > 1;
 }
 
 int check_command(int count, char **names)
 {
     struct progress p;
     struct sum s = {0, 0, 0};
+    if (named_twice(count, names))
+        return complain("-", "standard input can be read once", NULL);
     progress_start(&p);
     for (int i = 0; i < count; i++) {
         check_one(names[i], &s);

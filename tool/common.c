@@ -8,16 +8,24 @@
 #include <stdlib.h>
 #include <string.h>
 
-void complain(const char *name, const char *what)
+int complain(const char *name, const char *what, const char *why)
 {
-    const char *why = strerror(errno);
     fflush(stdout);
-    fprintf(stderr, "mdf3: %s: %s: %s\n", name, what, why);
+    fprintf(stderr, "mdf3: ");
+    print_name(stderr, name);
+    fprintf(stderr, ": %s%s%s\n", what, why == NULL ? "" : ": ", why == NULL ? "" : why);
+    return TROUBLE;
+}
+
+int complain_of(const char *name, const char *what)
+{
+    return complain(name, what, errno == 0 ? NULL : strerror(errno));
 }
 
 void print_line(const char *name, uint32_t number, uint64_t place)
 {
-    printf("%s: %" PRIu32 " %" PRIu64 " %s\n", name, number, place, in_words(number, place));
+    print_name(stdout, name);
+    printf(": %" PRIu32 " %" PRIu64 " %s\n", number, place, in_words(number, place));
 }
 
 int load_one(const char *name, struct file *f)
@@ -26,11 +34,10 @@ int load_one(const char *name, struct file *f)
     case LOADED:
         return DONE;
     case TOO_LONG:
-        print_line(name, 1, 0);
+        print_line(name, MDF3_TOO_LONG, 0);
         return REFUSED;
     default:
-        complain(name, "cannot be read");
-        return TROUBLE;
+        return complain_of(name, "cannot be read");
     }
 }
 
@@ -38,18 +45,18 @@ int copy_in_memory(const char *name, const struct file *image, struct file *copy
 {
     uint8_t answer[MDF3_ANSWER_SIZE], none;
     uint32_t number;
-    /* with no room, an image that can be copied gives 13 and the length needed */
+    /* with no room, an image that can be copied gives the length needed */
     number = mdf3_copy(image->bytes, image->length, &none, 0, answer);
-    if (number != 13) {
-        print_line(name, number, number_at(answer));
-        return REFUSED;
+    if (number == MDF3_NO_ROOM) {
+        copy->length = (size_t)number_at(answer);
+        copy->bytes = malloc(copy->length);
+        if (copy->bytes == NULL)
+            return complain_of(name, "its copy has no room in memory");
+        number = mdf3_copy(image->bytes, image->length, copy->bytes, copy->length, answer);
+        if (number == MDF3_OK)
+            return DONE;
+        unload(copy);
     }
-    copy->length = (size_t)number_at(answer);
-    copy->bytes = malloc(copy->length);
-    if (copy->bytes == NULL) {
-        complain(name, "its copy has no room in memory");
-        return TROUBLE;
-    }
-    mdf3_copy(image->bytes, image->length, copy->bytes, copy->length, answer);
-    return DONE;
+    print_line(name, number, number_at(answer));
+    return REFUSED;
 }

@@ -1,41 +1,41 @@
 #include "tool.h"
+#include "words.h"
 
-#include <inttypes.h>
 #include <stdio.h>
 
 /* The copy goes out; number, place and length are told. */
-static int put(const char *from, const char *to, struct file *image)
+static int put(const char *from, const char *to, const struct file *copy)
 {
-    struct file copy;
-    int result = copy_in_memory(from, image, &copy);
-    if (result != DONE)
-        return result;
-    if (store(to, copy.bytes, copy.length) != 0) {
-        complain(to, "cannot be written");
-        result = TROUBLE;
-    } else {
-        printf("%s: 0 0 copied to %s, %zu bytes\n", from, to, copy.length);
+    switch (store(to, copy->bytes, copy->length)) {
+    case STORED:
+        print_name(stdout, from);
+        printf(": 0 0 copied to ");
+        print_name(stdout, to);
+        printf(", %zu bytes\n", copy->length);
+        return DONE;
+    case UNSYNCED:
+        return complain_of(to, "is written, but may not be on the disk yet");
+    default:
+        return complain_of(to, "cannot be written");
     }
-    unload(&copy);
-    return result;
 }
 
-int copy_command(const char *from, const char *to)
+int copy_command(int count, char **names)
 {
-    struct file image;
+    const char *from = names[0], *to = names[1], *against = not_to_write(from, to);
+    struct file image, copy;
     int result;
-    if (same_file(from, to)) {
-        fprintf(stderr, "mdf3: %s: is the file to copy, and is not written over\n", to);
-        return TROUBLE;
-    }
-    if (!can_be_file(to)) {
-        fprintf(stderr, "mdf3: %s: is no regular file, and is not written\n", to);
-        return TROUBLE;
-    }
+    (void)count;
+    if (against != NULL)
+        return complain(to, against, NULL);
     result = load_one(from, &image);
     if (result != DONE)
         return result;
-    result = put(from, to, &image);
+    result = copy_in_memory(from, &image, &copy);
     unload(&image);
+    if (result != DONE)
+        return result;
+    result = put(from, to, &copy);
+    unload(&copy);
     return result;
 }

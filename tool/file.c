@@ -3,10 +3,6 @@
 
 #include <errno.h>
 #include <fcntl.h>
-#include <libgen.h>
-#include <limits.h>
-#include <signal.h>
-#include <stdio.h>
 #include <stdlib.h>
 #include <string.h>
 #include <sys/stat.h>
@@ -14,8 +10,6 @@
 
 /* The longest image that the library takes. */
 #define MOST 2147483647u
-
-/* ---- reading */
 
 /* Room for more bytes: what is there is kept. */
 static int grow(struct file *f, size_t *room)
@@ -90,137 +84,4 @@ void unload(struct file *f)
     errno = kept;
     f->bytes = NULL;
     f->length = 0;
-}
-
-int can_be_file(const char *name)
-{
-    struct stat about;
-    return stat(name, &about) != 0 || S_ISREG(about.st_mode);
-}
-
-int same_file(const char *one, const char *other)
-{
-    struct stat a, b;
-    if ((strcmp(one, "-") == 0 ? fstat(STDIN_FILENO, &a) : stat(one, &a)) != 0 || stat(other, &b) != 0)
-        return 0;
-    return a.st_dev == b.st_dev && a.st_ino == b.st_ino;
-}
-
-/* ---- writing */
-
-/* The file in the making, removed where the program is ended meanwhile. */
-static char making[PATH_MAX];
-
-static void ended(int signal_number)
-{
-    if (making[0] != '\0')
-        unlink(making);
-    signal(signal_number, SIG_DFL);
-    raise(signal_number);
-}
-
-static void watch(void)
-{
-    static const int numbers[4] = {SIGHUP, SIGINT, SIGPIPE, SIGTERM};
-    for (int i = 0; i < 4; i++)
-        if (signal(numbers[i], ended) == SIG_IGN)
-            signal(numbers[i], SIG_IGN);
-    /* a write beyond a limit fails, and does not end the program */
-    signal(SIGXFSZ, SIG_IGN);
-}
-
-static int write_all(int fd, const uint8_t *bytes, size_t length)
-{
-    while (length > 0) {
-        ssize_t put = write(fd, bytes, length > INT_MAX ? INT_MAX : length);
-        if (put < 0 && errno != EINTR)
-            return -1;
-        if (put > 0) {
-            bytes += put;
-            length -= (size_t)put;
-        }
-    }
-    return 0;
-}
-
-/* The access that a new file has. */
-static int open_up(int fd, const char *name)
-{
-    struct stat about;
-    mode_t mask = umask(0);
-    umask(mask);
-    return fchmod(fd, stat(name, &about) == 0 ? about.st_mode & 0777 : 0666 & ~mask);
-}
-
-/* What has been renamed is on the disk once its folder is. */
-static void sync_folder(char *folder)
-{
-    int fd = open(folder, O_RDONLY);
-    if (fd >= 0) {
-        fsync(fd);
-        close(fd);
-    }
-}
-
-/* The name that a link leads to, so that the link stays; and where the file in the making stands. */
-static int places(const char *name, char target[PATH_MAX], char folder[PATH_MAX])
-{
-    struct stat about;
-    char *upper;
-    if (stat(name, &about) == 0) {
-        if (realpath(name, target) == NULL)
-            return -1;
-    } else if (strlen(name) >= PATH_MAX) {
-        errno = ENAMETOOLONG;
-        return -1;
-    } else {
-        strcpy(target, name);
-    }
-    strcpy(folder, target);
-    upper = dirname(folder);
-    memmove(folder, upper, strlen(upper) + 1);
-    return 0;
-}
-
-/* Writes the file in the making and gives it its name. */
-static int make(const char *target, int fd, const uint8_t *bytes, size_t length)
-{
-    int done = write_all(fd, bytes, length) == 0 && open_up(fd, target) == 0 && fsync(fd) == 0;
-    int kept = errno;
-    if (close(fd) != 0 && done) {
-        done = 0;
-        kept = errno;
-    }
-    if (done && rename(making, target) != 0) {
-        done = 0;
-        kept = errno;
-    }
-    if (!done)
-        unlink(making);
-    making[0] = '\0';
-    errno = kept;
-    return done ? 0 : -1;
-}
-
-int store(const char *name, const uint8_t *bytes, size_t length)
-{
-    static char target[PATH_MAX], folder[PATH_MAX];
-    int fd, result;
-    if (places(name, target, folder) != 0)
-        return -1;
-    if ((size_t)snprintf(making, sizeof making, "%s/.mdf3-XXXXXX", folder) >= sizeof making) {
-        making[0] = '\0';
-        errno = ENAMETOOLONG;
-        return -1;
-    }
-    watch();
-    fd = mkstemp(making);
-    if (fd < 0) {
-        making[0] = '\0';
-        return -1;
-    }
-    result = make(target, fd, bytes, length);
-    if (result == 0)
-        sync_folder(folder);
-    return result;
 }

@@ -21,14 +21,16 @@ enum loaded load(const char *name, struct file *f);
 
 void unload(struct file *f);
 
-/* Whether a file with this name can be written: there is none yet, or a regular one. */
-int can_be_file(const char *name);
+/* Why a copy of one file is not written under another name; NULL where nothing is against it. */
+const char *not_to_write(const char *from, const char *to);
 
-/* Whether both names lead to one file. */
-int same_file(const char *one, const char *other);
+enum stored {
+    STORED,   /* the file is there, on the disk */
+    UNSTORED, /* nothing has changed; errno says why */
+    UNSYNCED  /* the file is there, but perhaps not yet on the disk; errno says why */
+};
 
-/* Writes a file: all of it stands there afterwards, on the disk, or nothing has changed. 0 where it is done; else errno
- * says why not. */
-int store(const char *name, const uint8_t *bytes, size_t length);
+/* Writes a file whole or not at all. */
+enum stored store(const char *name, const uint8_t *bytes, size_t length);
 
 #endif

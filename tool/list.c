@@ -25,7 +25,7 @@ static const uint8_t *body(const struct file *f, size_t field, size_t *length)
 }
 
 /* The long name where there is one, else the short one. */
-static void print_name(const struct file *f, size_t cn)
+static void print_channel_name(const struct file *f, size_t cn)
 {
     size_t length;
     const uint8_t *name = body(f, cn + 218, &length);
@@ -51,10 +51,10 @@ static void list_channel(const struct file *f, size_t cn, unsigned number)
 {
     unsigned bits = u16(f, cn + 188);
     printf("  channel %u: ", number);
-    print_name(f, cn);
-    printf(", %s%s, %u bit%s", u16(f, cn + 24) == 1 ? "time, " : "", type_name(u16(f, cn + 190)), bits, plural(bits));
+    print_channel_name(f, cn);
+    printf(", %s, %u bit%s", type_name(u16(f, cn + 190)), bits, plural(bits));
     print_unit(f, cn);
-    printf("\n");
+    printf("%s\n", u16(f, cn + 24) == 1 ? ", time channel" : "");
 }
 
 static void list_group(const struct file *f, size_t dg, unsigned number)
@@ -72,22 +72,24 @@ static void list_group(const struct file *f, size_t dg, unsigned number)
 static void list_file(const char *name, const struct file *f)
 {
     unsigned version = u16(f, 28), group = 0;
-    printf("%s: 0 0 version %u.%02u, %u group%s\n", name, version / 100, version % 100, u16(f, 64 + 16), plural(u16(f, 64 + 16)));
+    print_name(stdout, name);
+    printf(": 0 0 version %u.%02u, %u group%s\n", version / 100, version % 100, u16(f, 64 + 16), plural(u16(f, 64 + 16)));
     for (size_t dg = u32(f, 64 + 4); dg != 0; dg = u32(f, dg + 4))
         list_group(f, dg, group++);
 }
 
-int list_command(const char *name)
+int list_command(int count, char **names)
 {
     struct file image, copy;
-    int result = load_one(name, &image);
+    int result = load_one(names[0], &image);
+    (void)count;
     if (result != DONE)
         return result;
-    result = copy_in_memory(name, &image, &copy);
+    result = copy_in_memory(names[0], &image, &copy);
     unload(&image);
     if (result != DONE)
         return result;
-    list_file(name, &copy);
+    list_file(names[0], &copy);
     unload(&copy);
     return DONE;
 }

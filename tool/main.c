@@ -1,13 +1,18 @@
 /* mdf3: MDF 3 files checked, copied, listed and read from the command line. */
+#define _XOPEN_SOURCE 700
 #include "mdf3.h"
 #include "tool.h"
 
 #include <errno.h>
+#include <fcntl.h>
+#include <limits.h>
+#include <signal.h>
 #include <stdio.h>
 #include <string.h>
+#include <unistd.h>
 
 static const char usage[] =
-    "usage: mdf3 check FILE..                        is each file accepted?\n"
+    "usage: mdf3 check FILE...                       is each file accepted?\n"
     "       mdf3 copy FILE OUT                       write its canonical copy\n"
     "       mdf3 list FILE                           its groups and channels\n"
     "       mdf3 sample FILE GROUP CHANNEL RECORD    one sample, raw and physical\n"
@@ -18,47 +23,87 @@ static const char help[] =
     "\n"
     "FILE is an MDF 3 file (versions 3.00 to 3.99), - for standard input. Groups, channels and records count from 0, as list\n"
     "shows them. A line of an answer has a number and a place: 0 0, or why the file is refused and at which byte. OUT is\n"
-    "written whole or not at all, and never where it is FILE.\n"
+    "written whole or not at all, and never where it is FILE. A -- ends the options: what follows may begin with -.\n"
     "\n"
     "Exit status: 0 done, 1 refused, 2 trouble with an argument, a file, memory or the disk.\n";
 
-static int wrong(void)
+struct command {
+    const char *name, *takes;
+    int least, most; /* arguments */
+    int (*run)(int count, char **words);
+};
+
+static const struct command commands[4] = {
+    {"check", "takes one FILE or more", 1, INT_MAX, check_command},
+    {"copy", "takes FILE OUT", 2, 2, copy_command},
+    {"list", "takes one FILE", 1, 1, list_command},
+    {"sample", "takes FILE GROUP CHANNEL RECORD", 4, 4, sample_command},
+};
+
+static int wrong(const char *word, const char *what)
 {
+    if (word != NULL)
+        complain(word, what, NULL);
     fputs(usage, stderr);
     return TROUBLE;
 }
 
-static int command(int count, char **words)
+static int tell_help(void)
 {
-    const char *name = words[0];
-    if (strcmp(name, "check") == 0 && count >= 2)
-        return check_command(count - 1, words + 1);
-    if (strcmp(name, "copy") == 0 && count == 3)
-        return copy_command(words[1], words[2]);
-    if (strcmp(name, "list") == 0 && count == 2)
-        return list_command(words[1]);
-    if (strcmp(name, "sample") == 0 && count == 5)
-        return sample_command(words[1], words + 2);
-    return wrong();
+    printf("%s%s", usage, help);
+    return DONE;
+}
+
+/* Options come first; the arguments are what is left. */
+static int run(const struct command *c, int count, char **words)
+{
+    if (count > 0 && strcmp(words[0], "--help") == 0)
+        return tell_help();
+    if (count > 0 && strcmp(words[0], "--") == 0) {
+        count--;
+        words++;
+    } else if (count > 0 && words[0][0] == '-' && words[0][1] != '\0') {
+        return wrong(words[0], "no such option");
+    }
+    if (count < c->least || count > c->most)
+        return wrong(c->name, c->takes);
+    return c->run(count, words);
+}
+
+static int start(int count, char **words)
+{
+    if (count == 0)
+        return wrong(NULL, NULL);
+    if (strcmp(words[0], "--help") == 0)
+        return tell_help();
+    if (strcmp(words[0], "--version") == 0) {
+        printf("mdf3 %s\n", MDF3_VERSION);
+        return DONE;
+    }
+    for (int i = 0; i < 4; i++)
+        if (strcmp(words[0], commands[i].name) == 0)
+            return run(&commands[i], count - 1, words + 1);
+    return wrong(words[0], words[0][0] == '-' ? "no such option" : "no such command");
+}
+
+/* Where a standard file is closed, another would be opened in its stead and read or written for it. So it becomes one that
+ * can only be used the wrong way round, and a use fails as it should. */
+static void fill_standard(void)
+{
+    for (int fd = 0; fd <= 2; fd++)
+        if (fcntl(fd, F_GETFD) == -1 && open("/dev/null", fd == 0 ? O_WRONLY : O_RDONLY) != fd)
+            _exit(TROUBLE);
 }
 
 int main(int argc, char **argv)
 {
     int result;
-    if (argc < 2)
-        return wrong();
-    if (strcmp(argv[1], "--help") == 0) {
-        printf("%s%s", usage, help);
-        result = DONE;
-    } else if (strcmp(argv[1], "--version") == 0) {
-        printf("mdf3 %s\n", MDF3_VERSION);
-        result = DONE;
-    } else {
-        result = command(argc - 1, argv + 1);
-    }
-    if (fflush(stdout) != 0 || ferror(stdout)) {
-        complain("standard output", "cannot be written");
-        return TROUBLE;
-    }
+    fill_standard();
+    /* a write beyond a limit fails, and does not end the program */
+    signal(SIGXFSZ, SIG_IGN);
+    result = start(argc > 0 ? argc - 1 : 0, argv + 1);
+    errno = 0;
+    if (fflush(stdout) != 0 || ferror(stdout))
+        return complain_of("standard output", "cannot be written");
     return result;
 }

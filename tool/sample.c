@@ -8,7 +8,7 @@
 #include <stdlib.h>
 #include <string.h>
 
-/* As few digits as tell it from every other. */
+/* As few digits as tell it from every other; the bits of what is no number. */
 static void print_double(uint64_t bits)
 {
     char text[40];
@@ -19,26 +19,37 @@ static void print_double(uint64_t bits)
         if (strtod(text, NULL) == value)
             break;
     }
-    printf("%s", text);
+    if (value == value)
+        printf("%s", text);
+    else
+        printf("nan, bits %016" PRIx64, bits);
 }
 
 static void print_single(uint64_t bits)
 {
     uint32_t low = (uint32_t)bits;
+    char text[40];
     float value;
     memcpy(&value, &low, 4);
-    printf("%.9g", (double)value);
+    for (int digits = 6; digits <= 9; digits++) {
+        snprintf(text, sizeof text, "%.*g", digits, (double)value);
+        if (strtof(text, NULL) == value)
+            break;
+    }
+    if (value == value)
+        printf("%s", text);
+    else
+        printf("nan, bits %08" PRIx32, low);
 }
 
 /* Text or bytes: where they stand, and their bytes. */
 static void print_part(const struct file *f, uint64_t place, uint64_t length)
 {
-    printf("%" PRIu64 " bytes at %" PRIu64 ": ", length, place);
+    printf("%" PRIu64 " byte%s at %" PRIu64 ": ", length, plural(length), place);
     for (uint64_t i = 0; i < length; i++)
         printf("%02x", f->bytes[place + i]);
-    printf(" \"");
-    print_text(stdout, f->bytes + place, (size_t)length);
-    printf("\"");
+    putchar(' ');
+    print_quoted(stdout, f->bytes + place, (size_t)length);
 }
 
 static void print_value(const struct file *f, const uint8_t answer[MDF3_ANSWER_SIZE])
@@ -66,13 +77,13 @@ static void print_value(const struct file *f, const uint8_t answer[MDF3_ANSWER_S
 /* A line: the value, or number, place and words. */
 static void print_answer(const char *what, const struct file *f, uint32_t number, const uint8_t answer[MDF3_ANSWER_SIZE])
 {
-    uint64_t place = number_at(answer);
-    printf("%s: %" PRIu32 " %" PRIu64 " ", what, number, place);
-    if (number == 0)
-        print_value(f, answer);
-    else
-        printf("%s", in_words(number, place));
-    printf("\n");
+    if (number != MDF3_OK) {
+        print_line(what, number, number_at(answer));
+        return;
+    }
+    printf("%s: 0 0 ", what);
+    print_value(f, answer);
+    putchar('\n');
 }
 
 /* A number in decimal digits alone, below 2^64. */
@@ -86,27 +97,35 @@ static int read_index(const char *text, uint64_t *index)
     return *end == '\0' && errno == 0 ? 0 : -1;
 }
 
-int sample_command(const char *name, char **indices)
+static int print_sample(const struct file *f, const uint64_t index[3])
 {
     uint8_t answer[MDF3_ANSWER_SIZE];
+    uint32_t number = mdf3_sample(f->bytes, f->length, index[0], index[1], index[2], answer);
+    int result = number == MDF3_OK ? DONE : REFUSED;
+    print_answer("raw", f, number, answer);
+    number = mdf3_physical(f->bytes, f->length, index[0], index[1], index[2], answer);
+    print_answer("physical", f, number, answer);
+    return result;
+}
+
+int sample_command(int count, char **words)
+{
     uint64_t index[3];
     struct file f;
-    uint32_t number;
     int result;
-    for (int i = 0; i < 3; i++) {
-        if (read_index(indices[i], &index[i]) != 0) {
-            fprintf(stderr, "mdf3: %s: not a number from 0 to 18446744073709551615\n", indices[i]);
-            return TROUBLE;
-        }
-    }
-    result = load_one(name, &f);
-    if (result != DONE)
+    for (int i = 1; i < count; i++)
+        if (read_index(words[i], &index[i - 1]) != 0)
+            return complain(words[i], "not a number from 0 to 18446744073709551615", NULL);
+    switch (load(words[0], &f)) {
+    case LOADED:
+        result = print_sample(&f, index);
+        unload(&f);
         return result;
-    number = mdf3_sample(f.bytes, f.length, index[0], index[1], index[2], answer);
-    print_answer("raw", &f, number, answer);
-    result = number == 0 ? DONE : REFUSED;
-    number = mdf3_physical(f.bytes, f.length, index[0], index[1], index[2], answer);
-    print_answer("physical", &f, number, answer);
-    unload(&f);
-    return result;
+    case TOO_LONG:
+        print_line("raw", MDF3_TOO_LONG, 0);
+        print_line("physical", MDF3_TOO_LONG, 0);
+        return REFUSED;
+    default:
+        return complain_of(words[0], "cannot be read");
+    }
 }

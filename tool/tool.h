@@ -1,5 +1,5 @@
-/* The commands of the tool. Each gives the exit status: DONE, REFUSED (by the library's rules) or TROUBLE (a file, memory or
- * the disk). */
+/* The commands of the tool. Each takes its arguments, as many as it wants, and gives the exit status: DONE, REFUSED (by the
+ * library's rules) or TROUBLE (an argument, a file, memory or the disk). */
 #ifndef TOOL_H
 #define TOOL_H
 
@@ -8,14 +8,17 @@
 enum { DONE = 0, REFUSED = 1, TROUBLE = 2 };
 
 int check_command(int count, char **names);
-int copy_command(const char *from, const char *to);
-int list_command(const char *name);
-int sample_command(const char *name, char **indices);
+int copy_command(int count, char **names);
+int list_command(int count, char **names);
+int sample_command(int count, char **words);
 
-/* Says on standard error why something is not done, by errno. */
-void complain(const char *name, const char *what);
+/* Says on standard error what is not done, and why: in one's own words. Gives TROUBLE. */
+int complain(const char *name, const char *what, const char *why);
 
-/* Prints the line of a file: its name, number, place and the number in words. */
+/* The same, with the system's reason (errno). */
+int complain_of(const char *name, const char *what);
+
+/* Prints a line: its name, number, place and the number in words. */
 void print_line(const char *name, uint32_t number, uint64_t place);
 
 /* Loads a file that is to be looked at alone: tells where it can't. */

@@ -1,5 +1,7 @@
 #include "words.h"
 
+#include "mdf3.h"
+
 static const char *of_ident(uint64_t place)
 {
     switch (place) {
@@ -33,10 +35,11 @@ const char *in_words(uint32_t number, uint64_t place)
         "the sample cannot be read: its data type or bits, at this place",
         "the sample has no physical value",
     };
-    if (number == 4)
+    if (number == MDF3_IDENTIFICATION)
         return of_ident(place);
-    if (number == 5 && place == 64)
-        return "no header block";
+    /* the header block has no link; a link field may stand there too, where blocks overlap */
+    if (number == MDF3_LINK && place == 64)
+        return "no header block, or the link at this place leads to no block of its kind";
     return number < 17 ? words[number] : "unknown";
 }
 
@@ -48,13 +51,57 @@ uint64_t number_at(const uint8_t *answer)
     return x;
 }
 
+/* One byte of a text. */
+static void print_byte(FILE *to, uint8_t byte)
+{
+    if (byte >= 0xA0)
+        fprintf(to, "%c%c", 0xC0 | byte >> 6, 0x80 | (byte & 0x3F));
+    else
+        putc(byte >= 0x20 && byte < 0x7F ? byte : '?', to);
+}
+
 void print_text(FILE *to, const uint8_t *text, size_t length)
 {
+    for (size_t i = 0; i < length && text[i] != 0; i++)
+        print_byte(to, text[i]);
+}
+
+void print_quoted(FILE *to, const uint8_t *text, size_t length)
+{
+    putc('"', to);
     for (size_t i = 0; i < length && text[i] != 0; i++) {
-        if (text[i] >= 0xA0)
-            fprintf(to, "%c%c", 0xC0 | text[i] >> 6, 0x80 | (text[i] & 0x3F));
+        if (text[i] == '"' || text[i] == '\\')
+            putc('\\', to);
+        print_byte(to, text[i]);
+    }
+    putc('"', to);
+}
+
+/* How many bytes the character has that begins here, in UTF-8; 0 for a control character, for a backslash, and for what is
+ * no character. */
+static size_t character(const uint8_t *s)
+{
+    size_t length = s[0] < 0xC2 ? 1 : s[0] < 0xE0 ? 2 : s[0] < 0xF0 ? 3 : 4;
+    if (s[0] < 0x20 || s[0] == 0x7F || s[0] == '\\' || (s[0] >= 0x80 && s[0] < 0xC2) || s[0] > 0xF4)
+        return 0;
+    for (size_t i = 1; i < length; i++)
+        if (s[i] < 0x80 || s[i] > 0xBF)
+            return 0;
+    return s[0] == 0xC2 && s[1] < 0xA0 ? 0 : length;
+}
+
+void print_name(FILE *to, const char *name)
+{
+    const uint8_t *s = (const uint8_t *)name;
+    while (*s != 0) {
+        size_t length = character(s);
+        if (length > 0)
+            fwrite(s, 1, length, to);
+        else if (*s == '\\')
+            fputs("\\\\", to);
         else
-            putc(text[i] >= 0x20 && text[i] < 0x7F ? text[i] : '?', to);
+            fprintf(to, "\\x%02x", *s);
+        s += length == 0 ? 1 : length;
     }
 }
 

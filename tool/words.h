@@ -15,6 +15,13 @@ uint64_t number_at(const uint8_t *answer);
 /* Prints text of a file up to its first zero byte: ISO 8859-1 as UTF-8, what is no letter or sign as '?'. */
 void print_text(FILE *to, const uint8_t *text, size_t length);
 
+/* The same between quotation marks; a backslash stands before those in the text, and before a backslash. */
+void print_quoted(FILE *to, const uint8_t *text, size_t length);
+
+/* Prints the name of a file, so that it can't break a line or steer a terminal: control characters and what is not UTF-8 as
+ * \xHH, a backslash doubled. */
+void print_name(FILE *to, const char *name);
+
 /* "s" behind a count that is not 1. */
 const char *plural(uint64_t count);
 
