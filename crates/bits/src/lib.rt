@@ -100,6 +100,7 @@ fn depth(bits: usize, n: u64) -> u64
     half - 1 - (n - half)
 }
 
+// The number that so many bits are in two's complement.
 pub fn signed(bits: usize, n: u64) -> i64
     requires { ⌜ (1 ≤ bits) × (bits ≤ 64) × (n < 2 ^ bits) ⌝ }
     ensures { λ r. ⌜ r ≡ signedOf bits n ⌝ }

@@ -17,7 +17,7 @@ abbrev pub outcome : Copied → Outcome ℕ
 outcome (Done n) = outcomeOf (accepted n)
 outcome (Refused n p) = outcomeOf (refused n p)
 
--- what stands before the groups: the header's size, the two texts and their places, and the place behind them
+-- what stands before the groups: the header's size, comment and program with their places, and the place behind them
 pub record FrontIs (image : List ℕ) (t : Front) (r : Reading) : Type 0 where
   pub size : t .size ≡ HD-written (version r)
   pub least : 164 ≤ t .size
@@ -30,5 +30,5 @@ pub record FrontIs (image : List ℕ) (t : Front) (r : Reading) : Type 0 where
   pub near : t .first < 200000
 
 -- ID and HD
-unfoldable pub frontAs : Reading → List ℕ
-frontAs r = r .ident ++ writeHd (version r) (length (r .groups)) (hdOf r)
+unfoldable pub idHdBytes : Reading → List ℕ
+idHdBytes r = r .ident ++ writeHd (version r) (length (r .groups)) (hdOf r)

@@ -13,7 +13,7 @@ ghost use Rattle.answers.specs.Outcomes.{copyOutcome};
 ghost use Rattle.reading.specs.Promise.{imageReading};
 ghost use Rattle.reading.specs.Steps.{AtFile};
 ghost use Rattle.put_channels.specs.Channels.{SumIs};
-ghost use Rattle.copy.specs.Copying.{outcome, FrontIs, frontAs};
+ghost use Rattle.copy.specs.Copying.{outcome, FrontIs, idHdBytes};
 
 // ---- before the groups
 
@@ -65,9 +65,9 @@ fn needed(image: &[u8], f: File) -> Sum
 // ---- the copy
 
 // ID and HD.
-fn put_front(out: &mut [u8], image: &[u8], f: File, front: Front, count: usize)
+fn put_id_hd(out: &mut [u8], image: &[u8], f: File, front: Front, count: usize)
     requires { ⌜ AtFile (now image) f × FrontIs (now image) front (imageReading (now image)) × (count ≡ length (imageReading (now image) .groups)) × (64 + front .size ≤ length (now out)) ⌝ }
-    ensures { λ _. ⌜ Wrote (now (out .entry)) (now (out .exit)) 0 (frontAs (imageReading (now (image .entry)))) ⌝ }
+    ensures { λ _. ⌜ Wrote (now (out .entry)) (now (out .exit)) 0 (idHdBytes (imageReading (now (image .entry)))) ⌝ }
 {
     blocks::put_id(out, image);
     let part = f.fields(image);
@@ -97,7 +97,7 @@ fn put_file(out: &mut [u8], image: &[u8], f: File, count: usize)
     ensures { λ _. ⌜ Wrote (now (out .entry)) (now (out .exit)) 0 (canonicalCopy (imageReading (now (image .entry)))) ⌝ }
 {
     let front = front_of(image, f);
-    put_front(out, image, f, front, count);
+    put_id_hd(out, image, f, front, count);
     let comment = front.comment;
     let program = front.program;
     put_channels::put_body(out, front.tx, image, comment, blocks::TX);

@@ -36,12 +36,12 @@ fn groups_then_log(image: &[u8], dg: Span, mode: usize, c: Cursor) -> Walked
         return w;
     };
     let n = d.cgs - c.cgs;
-    let log = image::u32_in(image, dg, 16);
+    let data = image::u32_in(image, dg, 16);
     if let Step::Stop(number, place) = records::log(
         image,
         mode,
         at + 16,
-        log,
+        data,
         &ids[..n],
         &sizes[..n],
         &counts[..n],
@@ -130,7 +130,7 @@ fn ident(image: &[u8]) -> Step
     Step::Go
 }
 
-// The header and all that hangs on it.
+// The header, its comment and program, and the data groups.
 fn header(image: &[u8]) -> Verdict
     ensures { λ r. ⌜ answerOf r ≡ passed (fileFrom (imageOf (now (image .entry))) (take 64 (now (image .entry)))) ⌝ }
 {

@@ -1,5 +1,5 @@
 -- What the C calls hand back: a number, and 32 bytes, four little-endian numbers of 64 bits.
--- docs/DECISIONS.md, the answer for C. Assumes nothing.
+-- docs/DECISIONS.md, 50. Assumes nothing.
 use Prim.Native.Nat.{ℕ}
 use mathlib.Core.List.{List, _++_}
 use mathlib.Core.Option.{Option, none, some}

@@ -1,4 +1,5 @@
-// The calls for C programs: include/mdf3.h declares them.
+// The calls for C programs: include/mdf3.h declares them. Number and place of a refusal are called otherwise in each, so
+// that a must-fail edit, which goes by one line, can name them.
 use copy::Copied;
 use physical::PhysicalAnswer;
 use reading::Access;
@@ -149,8 +150,8 @@ pub extern "C" fn mdf3_sample(
             *answer = sample_bytes(s);
             0
         }
-        StoredAnswer::Refused(refusal, field) => {
-            *answer = answer_bytes(field as u64, 0, 0, 0);
+        StoredAnswer::Refused(refusal, byte) => {
+            *answer = answer_bytes(byte as u64, 0, 0, 0);
             refusal
         }
     }

@@ -1,8 +1,9 @@
 // The small program: copies the image on standard input to standard output, or writes the refusal's number and place.
 use copy::Copied;
 ghost use mathlib.Core.Path.{_≡_};
+ghost use mathlib.Core.List.{_++_};
 ghost use Prim.Native.Nat.{_≤_};
-ghost use lib.ListN.{take};
+ghost use lib.ListN.{length, drop};
 ghost use Rattle.answers.specs.Outcomes.{programOutcome, programOutput};
 ghost use Rattle.copy.specs.Copying.{outcome};
 
@@ -22,9 +23,9 @@ fn wide(number: u32) -> u64
     number as u64
 }
 
-// What the program writes: the copy, or one line. The answer is its length.
+// What the program writes, at the start of the output: the copy, or one line. The answer is its length.
 fn output(image: &[u8], out: &mut [u8; 32768]) -> usize
-    ensures { λ r. ⌜ (take r (now (out .exit)) ≡ programOutput (now (image .entry))) × (r ≤ 32768) ⌝ }
+    ensures { λ r. ⌜ (now (out .exit) ≡ programOutput (now (image .entry)) ++ drop r (now (out .entry))) × (r ≡ length (programOutput (now (image .entry)))) × (r ≤ 32768) ⌝ }
 {
     let copied = copy_small(image, out);
     match copied {

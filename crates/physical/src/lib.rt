@@ -9,7 +9,7 @@ ghost use Prim.Native.Nat.{_+_, _^_, _≤_, _<_};
 ghost use lib.ListN.{length, take, drop};
 ghost use lib.Ieee.{binary64, ofBits};
 ghost use Rattle.answers.specs.Samples.{u64, Logged, unsigned, signed, double, numberOf, linear, converted, physicalOutcome};
-ghost use Rattle.reading.specs.Steps.{bodyOf, BodyInside, theChannel, channelPlace};
+ghost use Rattle.reading.specs.Steps.{bodyHeld, BodyInside, theChannel, channelPlace};
 ghost use Rattle.stored.specs.Stored.{storedOf, SignedFits, RowAt, LoggedAt};
 ghost use Rattle.physical.specs.Values.{answerOf, outcome, physicalOf};
 
@@ -102,7 +102,7 @@ fn linear(image: &[u8], at: usize, size: usize, x: f64) -> PhysicalAnswer
 // A number by the conversion of its channel.
 fn convert(image: &[u8], cc: Body, x: f64) -> PhysicalAnswer
     requires { ⌜ BodyInside (now image) cc ⌝ }
-    ensures { λ r. ⌜ answerOf r ≡ converted (bodyOf (now (image .entry)) cc) x ⌝ }
+    ensures { λ r. ⌜ answerOf r ≡ converted (bodyHeld (now (image .entry)) cc) x ⌝ }
 {
     let Body::Present(at, size) = cc else {
         return PhysicalAnswer::Value(x);
@@ -123,7 +123,7 @@ fn physical_in(image: &[u8], c: Channel, place: usize, size: usize) -> PhysicalA
     ensures { λ r. ⌜ ((x : Logged) → LoggedAt (now (image .entry)) place size x → answerOf r ≡ physicalOf (theChannel (now (image .entry)) c) (channelPlace c + 190) x) ⌝ }
 {
     match stored::sample_in(image, c, place, size) {
-        StoredAnswer::Refused(code, field) => PhysicalAnswer::Refused(code, field),
+        StoredAnswer::Refused(code, at) => PhysicalAnswer::Refused(code, at),
         StoredAnswer::Found(s) => {
             let n = number(s);
             let PhysicalAnswer::Value(x) = n else {
@@ -139,7 +139,7 @@ pub fn physical(image: &[u8], group: usize, channel: usize, record: usize) -> Ph
     ensures { λ r. ⌜ outcome r ≡ physicalOutcome (now (image .entry)) group channel «record» ⌝ }
 {
     match reading::seek(image, group, channel, record) {
-        Sought::Refused(code, field) => PhysicalAnswer::Refused(code, field),
+        Sought::Refused(code, at) => PhysicalAnswer::Refused(code, at),
         Sought::Found(c, place, size) => physical_in(image, c, place, size),
     }
 }

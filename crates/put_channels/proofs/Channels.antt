@@ -14,24 +14,24 @@ use Rattle.blocks.proofs.Written.{cn-written}
 use Rattle.write.specs.Write.{Wrote, then, wrote-as, padded}
 use Rattle.answers.specs.Readings.{WellFormedChannel}
 use Rattle.answers.proofs.Laws.{length-cn, length-channel}
-use Rattle.reading.specs.declared.Part.{Part}
+use Rattle.reading.specs.declared.Carried.{Carried}
 use Rattle.reading.specs.declared.Channel.{Channel}
 use Rattle.reading.specs.Steps.{theChannel, FieldsAre}
 use Rattle.put_channels.specs.declared.Bodies.{Bodies}
 use Rattle.put_channels.specs.declared.Places.{Places}
-use Rattle.put_channels.specs.Spans.{spanLink, spanBytes}
+use Rattle.put_channels.specs.Written.{writtenLink, writtenBytes}
 use Rattle.put_channels.specs.Channels.{BodiesAre, BodiesInside, SmallBodies, PlacesAre, bodiesBytes, blockAs, channelAs}
-use Rattle.put_channels.proofs.Spans.{small-span, span-length, span-link, span-bytes, written-span}
+use Rattle.put_channels.proofs.Written.{small-written, written-length, written-link, written-bytes, written-as}
 
 module _ (image : List ℕ) (b : Bodies) (c : ReadChannel) (h : BodiesAre image b c) where
   pub small-bodies : SmallBodies b
   small-bodies =
       record {
-        conversion = small-span image (b .conversion) (h .conversion .inside);
-        extension = small-span image (b .extension) (h .extension .inside);
-        comment = small-span image (b .comment) (h .comment .inside);
-        long = small-span image (b .long) (h .long .inside);
-        display = small-span image (b .display) (h .display .inside);
+        conversion = small-written image (b .conversion) (h .conversion .inside);
+        extension = small-written image (b .extension) (h .extension .inside);
+        comment = small-written image (b .comment) (h .comment .inside);
+        long = small-written image (b .long) (h .long .inside);
+        display = small-written image (b .display) (h .display .inside);
       }
 
   pub inside-bodies : BodiesInside image b
@@ -55,11 +55,11 @@ module _ (image : List ℕ) (b : Bodies) (c : ReadChannel) (h : BodiesAre image 
   pub places-by : (at : ℕ) (p : Places) → PlacesAre at b p → PlacesBy at p
   unfolding channelLength
   places-by at p q =
-      let l₁ = span-length image (b .conversion) (h .conversion) in
-      let l₂ = span-length image (b .extension) (h .extension) in
-      let l₃ = span-length image (b .comment) (h .comment) in
-      let l₄ = span-length image (b .long) (h .long) in
-      let l₅ = span-length image (b .display) (h .display) in
+      let l₁ = written-length image (b .conversion) (h .conversion) in
+      let l₂ = written-length image (b .extension) (h .extension) in
+      let l₃ = written-length image (b .comment) (h .comment) in
+      let l₄ = written-length image (b .long) (h .long) in
+      let l₅ = written-length image (b .display) (h .display) in
       let e₁ : p .ce ≡ at + 228 + bodyLength (c .conversion) = q .ce ∙ ap₂ _+_ (q .cc) l₁ in
       let e₂ : p .tx ≡ at + 228 + bodyLength (c .conversion) + bodyLength (c .extension) = q .tx ∙ ap₂ _+_ e₁ l₂ in
       let e₃ : p .long ≡ at + 228 + bodyLength (c .conversion) + bodyLength (c .extension) + bodyLength (c .comment) = q .long ∙ ap₂ _+_ e₂ l₃ in
@@ -70,8 +70,8 @@ module _ (image : List ℕ) (b : Bodies) (c : ReadChannel) (h : BodiesAre image 
   unfolding bodiesBytes
   bodies-bytes =
       ap₂ _++_
-      (ap₂ _++_ (ap₂ _++_ (ap₂ _++_ (span-bytes CC image (b .conversion) (h .conversion)) (span-bytes CE image (b .extension) (h .extension))) (span-bytes TX image (b .comment) (h .comment))) (span-bytes TX image (b .long) (h .long)))
-      (span-bytes TX image (b .display) (h .display))
+      (ap₂ _++_ (ap₂ _++_ (ap₂ _++_ (written-bytes CC image (b .conversion) (h .conversion)) (written-bytes CE image (b .extension) (h .extension))) (written-bytes TX image (b .comment) (h .comment))) (written-bytes TX image (b .long) (h .long)))
+      (written-bytes TX image (b .display) (h .display))
 
 -- the bytes of a channel by the definition
 channel-as : (at : ℕ) (next : Option ℕ) (c : ReadChannel) → channelBytes at next c ≡ channelAs at (target next) c
@@ -86,18 +86,18 @@ channel-as at next c =
 
 module _ (image : List ℕ) (at : ℕ) (b : Bodies) (p : Places) (q : PlacesAre at b p) (i : BodiesInside image b) where
   pub bodies-written : {o₀ o₁ o₂ o₃ o₄ o₅ : List ℕ}
-      → Wrote o₀ o₁ (p .cc) (spanBytes 67 67 image (b .conversion))
-      → Wrote o₁ o₂ (p .ce) (spanBytes 67 69 image (b .extension))
-      → Wrote o₂ o₃ (p .tx) (spanBytes 84 88 image (b .comment))
-      → Wrote o₃ o₄ (p .long) (spanBytes 84 88 image (b .long))
-      → Wrote o₄ o₅ (p .display) (spanBytes 84 88 image (b .display))
+      → Wrote o₀ o₁ (p .cc) (writtenBytes 67 67 image (b .conversion))
+      → Wrote o₁ o₂ (p .ce) (writtenBytes 67 69 image (b .extension))
+      → Wrote o₂ o₃ (p .tx) (writtenBytes 84 88 image (b .comment))
+      → Wrote o₃ o₄ (p .long) (writtenBytes 84 88 image (b .long))
+      → Wrote o₄ o₅ (p .display) (writtenBytes 84 88 image (b .display))
       → Wrote o₀ o₅ (at + 228) (bodiesBytes image b)
   unfolding bodiesBytes
   bodies-written w₁ w₂ w₃ w₄ w₅ =
-      let l₁ = written-span 67 67 image (b .conversion) (i .conversion) in
-      let l₂ = written-span 67 69 image (b .extension) (i .extension) in
-      let l₃ = written-span 84 88 image (b .comment) (i .comment) in
-      let l₄ = written-span 84 88 image (b .long) (i .long) in
+      let l₁ = written-as 67 67 image (b .conversion) (i .conversion) in
+      let l₂ = written-as 67 69 image (b .extension) (i .extension) in
+      let l₃ = written-as 84 88 image (b .comment) (i .comment) in
+      let l₄ = written-as 84 88 image (b .long) (i .long) in
       wrote-as
       (then
       (then
@@ -109,22 +109,22 @@ module _ (image : List ℕ) (at : ℕ) (b : Bodies) (p : Places) (q : PlacesAre 
       (q .cc) refl
 
 module _ (image : List ℕ) (at : ℕ) (b : Bodies) (p : Places) (x : Channel) (h : BodiesAre image b (theChannel image x)) (q : PlacesAre at b p) where
-  pub block-written : (next cc ce tx long display : ℕ) (r : Part)
-      → cc ≡ spanLink (p .cc) (b .conversion)
-      → ce ≡ spanLink (p .ce) (b .extension)
-      → tx ≡ spanLink (p .tx) (b .comment)
-      → long ≡ spanLink (p .long) (b .long)
-      → display ≡ spanLink (p .display) (b .display)
+  pub block-written : (next cc ce tx long display : ℕ) (r : Carried)
+      → cc ≡ writtenLink (p .cc) (b .conversion)
+      → ce ≡ writtenLink (p .ce) (b .extension)
+      → tx ≡ writtenLink (p .tx) (b .comment)
+      → long ≡ writtenLink (p .long) (b .long)
+      → display ≡ writtenLink (p .display) (b .display)
       → FieldsAre image x r
       → cnBytes next cc ce tx (take 194 (drop (r .from) image)) long display (padded image (r .from + 202) (r .held) 2) ≡ blockAs at next (theChannel image x)
   unfolding blockAs padded
   block-written next cc ce tx long display t e₁ e₂ e₃ e₄ e₅ m =
       let r = places-by image b (theChannel image x) h at p q in
-      let f₁ = e₁ ∙ span-link image (p .cc) (b .conversion) (h .conversion) in
-      let f₂ = e₂ ∙ span-link image (p .ce) (b .extension) (h .extension) in
-      let f₃ = e₃ ∙ span-link image (p .tx) (b .comment) (h .comment) in
-      let f₄ = e₄ ∙ span-link image (p .long) (b .long) (h .long) in
-      let f₅ = e₅ ∙ span-link image (p .display) (b .display) (h .display) in
+      let f₁ = e₁ ∙ written-link image (p .cc) (b .conversion) (h .conversion) in
+      let f₂ = e₂ ∙ written-link image (p .ce) (b .extension) (h .extension) in
+      let f₃ = e₃ ∙ written-link image (p .tx) (b .comment) (h .comment) in
+      let f₄ = e₄ ∙ written-link image (p .long) (b .long) (h .long) in
+      let f₅ = e₅ ∙ written-link image (p .display) (b .display) (h .display) in
       rw (f₁, f₂, f₃, f₄, f₅, q .cc, r .ce, r .tx, r .long, r .display, sym (m .main), sym (m .added))
 
 block-length : (size at next : ℕ) (c : ReadChannel) → WellFormedChannel size c → length (blockAs at next c) ≡ 228

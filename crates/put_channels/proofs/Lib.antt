@@ -1,3 +1,3 @@
-pub mod Spans
+pub mod Written
 pub mod Channels
 pub mod Sums

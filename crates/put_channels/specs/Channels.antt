@@ -12,7 +12,7 @@ use Rattle.reading.specs.Steps.{BodyInside, BodyIs}
 use Rattle.put_channels.specs.declared.Bodies.{Bodies}
 use Rattle.put_channels.specs.declared.Places.{Places}
 use Rattle.put_channels.specs.declared.Sum.{Sum}
-use Rattle.put_channels.specs.Spans.{Small, spanLength, spanBytes}
+use Rattle.put_channels.specs.Written.{Small, writtenLength, writtenBytes}
 
 -- the bodies of a channel
 pub record BodiesAre (image : List ℕ) (b : Bodies) (c : ReadChannel) : Type 0 where
@@ -39,16 +39,16 @@ pub record BodiesInside (image : List ℕ) (b : Bodies) : Type 0 where
 -- where they stand behind a block at a place
 pub record PlacesAre (at : ℕ) (b : Bodies) (p : Places) : Type 0 where
   pub cc : p .cc ≡ at + 228
-  pub ce : p .ce ≡ p .cc + spanLength (b .conversion)
-  pub tx : p .tx ≡ p .ce + spanLength (b .extension)
-  pub long : p .long ≡ p .tx + spanLength (b .comment)
-  pub display : p .display ≡ p .long + spanLength (b .long)
-  pub end : p .end ≡ p .display + spanLength (b .display)
+  pub ce : p .ce ≡ p .cc + writtenLength (b .conversion)
+  pub tx : p .tx ≡ p .ce + writtenLength (b .extension)
+  pub long : p .long ≡ p .tx + writtenLength (b .comment)
+  pub display : p .display ≡ p .long + writtenLength (b .long)
+  pub end : p .end ≡ p .display + writtenLength (b .display)
   pub near : p .end < at + 400000
 
 unfoldable pub bodiesBytes : List ℕ → Bodies → List ℕ
 bodiesBytes image b =
-    (((spanBytes 67 67 image (b .conversion) ++ spanBytes 67 69 image (b .extension)) ++ spanBytes 84 88 image (b .comment)) ++ spanBytes 84 88 image (b .long)) ++ spanBytes 84 88 image (b .display)
+    (((writtenBytes 67 67 image (b .conversion) ++ writtenBytes 67 69 image (b .extension)) ++ writtenBytes 84 88 image (b .comment)) ++ writtenBytes 84 88 image (b .long)) ++ writtenBytes 84 88 image (b .display)
 
 -- the block at a place, with the link to the next one as a number
 unfoldable pub blockAs : ℕ → ℕ → ReadChannel → List ℕ

@@ -1,2 +1,2 @@
-pub mod Spans
+pub mod Written
 pub mod Channels

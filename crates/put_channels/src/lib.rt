@@ -10,14 +10,14 @@ ghost use Rattle.write.specs.Write.{Wrote};
 ghost use Rattle.answers.specs.Copies.{linkToFirst, channelLength, channelsLength, channelsBytes};
 ghost use Rattle.answers.specs.Readings.{target};
 ghost use Rattle.reading.specs.Steps.{BodyInside, AtChannels, AtChannel, channelsLeft, theChannel};
-ghost use Rattle.put_channels.specs.Spans.{Small, spanLength, spanLink, spanBytes};
+ghost use Rattle.put_channels.specs.Written.{Small, writtenLength, writtenLink, writtenBytes};
 ghost use Rattle.put_channels.specs.Channels.{BodiesAre, BodiesInside, SmallBodies, PlacesAre, bodiesBytes, blockAs, channelAs, SumIs};
 
 // ---- bodies
 
 pub fn body_length(body: Body) -> usize
     requires { ⌜ Small body ⌝ }
-    ensures { λ r. ⌜ (r ≡ spanLength body) × (r < 65536) ⌝ }
+    ensures { λ r. ⌜ (r ≡ writtenLength body) × (r < 65536) ⌝ }
 {
     let Body::Present(_at, n) = body else {
         return 0;
@@ -27,7 +27,7 @@ pub fn body_length(body: Body) -> usize
 
 // The link to a body that stands at a place of the copy.
 pub fn body_link(body: Body, at: usize) -> usize
-    ensures { λ r. ⌜ r ≡ spanLink at body ⌝ }
+    ensures { λ r. ⌜ r ≡ writtenLink at body ⌝ }
 {
     let Body::Present(_from, _n) = body else {
         return 0;
@@ -37,8 +37,8 @@ pub fn body_link(body: Body, at: usize) -> usize
 
 // The block of a body, by its identifier.
 pub fn put_body(out: &mut [u8], at: usize, image: &[u8], body: Body, id: u64)
-    requires { ⌜ BodyInside (now image) body × (at + spanLength body ≤ length (now out)) ⌝ }
-    ensures { λ _. ⌜ Wrote (now (out .entry)) (now (out .exit)) at (spanBytes (id % 256) (id / 256 % 256) (now (image .entry)) body) ⌝ }
+    requires { ⌜ BodyInside (now image) body × (at + writtenLength body ≤ length (now out)) ⌝ }
+    ensures { λ _. ⌜ Wrote (now (out .entry)) (now (out .exit)) at (writtenBytes (id % 256) (id / 256 % 256) (now (image .entry)) body) ⌝ }
 {
     let Body::Present(from, n) = body else {
         return;

@@ -21,9 +21,9 @@ use Rattle.reading.specs.declared.Body.{Body}
 use Rattle.reading.specs.declared.Group.{Group}
 use Rattle.reading.specs.Steps.{AtGroup, theGroup, BodyIs}
 use Rattle.put_channels.specs.declared.Sum.{Sum}
-use Rattle.put_channels.specs.Spans.{spanBytes}
+use Rattle.put_channels.specs.Written.{writtenBytes}
 use Rattle.put_channels.specs.Channels.{Capped, SumIs}
-use Rattle.put_channels.proofs.Spans.{span-bytes}
+use Rattle.put_channels.proofs.Written.{written-bytes}
 use Rattle.put_groups.specs.Groups.{linkIf, headsAs, groupAs, Known}
 
 -- ---- lengths
@@ -110,7 +110,7 @@ known-of image g text sum s b m h = record { stands = s; comment = b; long = m .
 pub group-written : (image : List ℕ) (at next cn m : ℕ) (text : Body) (g : ReadGroup) → WellFormedGroup g → BodyIs image text (g .comment)
     → cn ≡ at + 58 + bodyLength (g .comment) → m ≡ channelsLength (g .channels) → {o₀ o₁ o₂ o₃ o₄ : List ℕ}
     → Wrote o₀ o₁ at (headsAs at next g)
-    → Wrote o₁ o₂ (at + 58) (spanBytes 84 88 image text)
+    → Wrote o₁ o₂ (at + 58) (writtenBytes 84 88 image text)
     → Wrote o₂ o₃ cn (channelsBytes cn (g .channels))
     → Wrote o₃ o₄ (cn + m) (join (g .records))
     → Wrote o₀ o₄ at (groupAs at next g)
@@ -121,7 +121,7 @@ group-written image at next cn m text g ok b e f w₁ w₂ w₃ w₄ =
     let l₃ = length-channels (g .recordSize) (at + 58 + bodyLength (g .comment)) (g .channels) (ok .channels) in
     then
     (then
-    (then w₁ (wrote-as w₂ refl (span-bytes TX image text b)) (omega (arith, l₁)))
+    (then w₁ (wrote-as w₂ refl (written-bytes TX image text b)) (omega (arith, l₁)))
     (wrote-as w₃ refl (ap (λ p. channelsBytes p (g .channels)) e)) (rw length-append (omega (arith, l₁, l₂, e))))
     w₄ (rw (length-append, length-append) (omega (arith, l₁, l₂, l₃, e, f)))
 

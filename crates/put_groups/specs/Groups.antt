@@ -13,7 +13,7 @@ use Rattle.reading.specs.declared.Group.{Group}
 use Rattle.reading.specs.Steps.{AtGroup, theGroup, BodyIs}
 use Rattle.put_channels.specs.declared.Sum.{Sum}
 
--- a link to n parts at a place
+-- the place as a link; nil where n is 0, so that nothing stands there
 abbrev pub linkIf : ℕ → ℕ → ℕ
 linkIf zero p = 0
 linkIf (suc n) p = p

@@ -30,7 +30,7 @@ fn group_length(image: &[u8], g: Group) -> usize
     n
 }
 
-// A link to n parts at a place.
+// The place as a link; nil where n is 0, so that nothing stands there.
 pub fn link_if(n: usize, at: usize) -> usize
     ensures { λ r. ⌜ r ≡ linkIf n at ⌝ }
 {
@@ -80,7 +80,7 @@ fn put_group(out: &mut [u8], at: usize, image: &[u8], g: Group, next: usize)
 
 // ---- the groups
 
-// A length before the groups that are left, with theirs, and how many they are.
+// `start` and the lengths of the groups that are left, added up; and how many groups they are.
 pub fn groups_sum(image: &[u8], groups: Groups, start: usize) -> Sum
     requires { ⌜ AtGroups (now image) groups × (start ≤ 2147483647) ⌝ }
     ensures { λ r. ⌜ SumIs r (start + groupsLength (groupsLeft (now (image .entry)) groups)) (length (groupsLeft (now (image .entry)) groups)) ⌝ }

@@ -96,7 +96,7 @@ imageOf bytes = record { bytes = bytes; version = versionOf (take ID-size bytes)
 abbrev pub sizeAt : Image → ℕ → ℕ
 sizeAt image p = number (take 2 (drop 2 (drop p (image .bytes))))
 
--- all bytes of the block of this kind at p. The place of its refusal is for the one who follows the link
+-- all bytes of the block of this kind at p. A refusal has place 0 here; `openBlock` sets the link field
 unfoldable pub opening : Kind → Image → ℕ → Answer (List ℕ)
 opening k image p = do
   _ ← require (leb (p + head-size) (length (image .bytes))) 5 0

@@ -100,7 +100,7 @@ physicalOutcome image group channel row = outcomeOf do
 
 -- ---- the small program (8)
 
--- the longest image that it takes, and its output memory
+-- the longest image that it takes, and the length of its output memory
 abbrev pub program-most : ℕ
 program-most = 32768
 
@@ -110,7 +110,7 @@ programming image room = do
   _ ← require (leb (length image) program-most) 1 0
   copying image room
 
--- the function under it
+-- what its copy gives, and leaves in an output memory
 unfoldable pub programOutcome : List ℕ → List ℕ → CopyOutcome
 programOutcome image out = copied (programming image (length out)) out
 

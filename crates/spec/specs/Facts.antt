@@ -1,4 +1,5 @@
--- Further statements about the definitions: what no example can compute, and how calls go together. Proofs: proofs/Facts.antt.
+-- Further statements about the definitions: what no example can compute, and how calls go together; docs/RULES.md, 5 to 8.
+-- Proofs: proofs/Facts.antt and proofs/Signs.antt.
 -- Assumes nothing.
 use Prim.Native.Nat.{ℕ, _^_, _≤_, _<_}
 use mathlib.Core.Path.{_≡_}

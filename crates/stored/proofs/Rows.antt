@@ -16,7 +16,7 @@ use Rattle.reading.proofs.Numbers.{above, drop-take}
 use Rattle.reading.specs.declared.Signal.{Signal}
 use Rattle.reading.specs.declared.Channel.{Channel}
 use Rattle.reading.specs.Steps.{theChannel, SignalIs}
-use Rattle.stored.specs.Stored.{Room, BitsOf, RowAt, LoggedAt}
+use Rattle.stored.specs.Stored.{BitsInside, BitsOf, RowAt, LoggedAt}
 
 -- the bytes of a signal lie in a record of its group
 bytes-fit : (size : ℕ) (f : Fields) → (bitCount f ≡ 0 → ⊥) → bitsFit size f ≡ true → byteOffset f + byteCount f ≤ size
@@ -35,7 +35,7 @@ module _ (image : List ℕ) (c : Channel) (place size : ℕ) (h : RowAt image c 
   in-record d = bytes-fit size (theChannel image c .fields) (λ e. d (is .bits ∙ e)) (h .well-formed .bits)
 
   module _ (d : s .bits ≡ 0 → ⊥) where
-    pub room : Room image (place + s .byte) s
+    pub room : BitsInside image (place + s .byte) s
     room =
         let l = in-record d in
         record { bit = omega (arith, is .bit); some = omega (arith, above _ _ refl d); few = is .few; inside = omega (arith, l, h .inside, is .byte, is .bit, is .bits) }

@@ -11,7 +11,7 @@ use borrow.Author.Tests.{le-leb, lt-leb, eq-eqb, ne-eqb, eqb-true, eqb-false}
 use Rattle.answers.specs.Samples.{Fields, Logged, bitOffset, bitCount, numberIn, pattern}
 use Rattle.bits.specs.Bits.{orderOf, bitsAt}
 use Rattle.reading.specs.declared.Signal.{Signal}
-use Rattle.stored.specs.Stored.{Room, BitsOf}
+use Rattle.stored.specs.Stored.{BitsInside, BitsOf}
 
 -- a whole number of bytes
 whole-bytes : (b : ℕ) → eqb b (8 * (b / 8)) ≡ eqb (b % 8) 0
@@ -54,5 +54,5 @@ module _ (s : Signal) (w : ℕ) (e : (eqb (s .bit) 0 && eqb (s .bits) w) ≡ tru
   pub filled-width : s .bits ≡ w
   filled-width = filled .1
 
-  pub filled-room : {image : List ℕ} {at : ℕ} → w ≤ 64 → Room image at s → (s .bit < 8) × (1 ≤ s .bits) × (s .bit + s .bits ≤ 64) × (at + (s .bit + s .bits + 7) / 8 ≤ length image)
+  pub filled-room : {image : List ℕ} {at : ℕ} → w ≤ 64 → BitsInside image at s → (s .bit < 8) × (1 ≤ s .bits) × (s .bit + s .bits ≤ 64) × (at + (s .bit + s .bits + 7) / 8 ≤ length image)
   filled-room l r = let f = filled in (r .bit, r .some, omega (arith, f .0, f .1), r .inside)

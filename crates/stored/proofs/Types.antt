@@ -79,23 +79,23 @@ module _ (k : ℕ)
 
 module _ {image : List ℕ} {at : ℕ} {s : Signal} {field : ℕ} where
   -- the data type that the code read by is the channel's
-  pub read-as : (e : Encoding) (big : Bool) {r : StoredAnswer} → Reads e (s .kind) → big ≡ bigOf (s .kind) → ReadAs (typed e big) image at s field r → ReadAs typeOf image at s field r
+  pub read-as : (e : Encoding) (big : Bool) {r : StoredAnswer} → Reads e (s .data_type) → big ≡ bigOf (s .data_type) → ReadAs (typed e big) image at s field r → ReadAs typeOf image at s field r
   read-as e big t b h =
       record {
         is = λ f x i.
             h .is f x i
             ∙ ap (λ o. storedAs e (orderOf o) f field x) b
             ∙ ap (λ (d : DataType). storedAs (d .encoding) (d .order) f field x) (sym t)
-            ∙ ap (λ n. storedAs (typeAt n .encoding) (typeAt n .order) f field x) (i .signal .kind);
+            ∙ ap (λ n. storedAs (typeAt n .encoding) (typeAt n .order) f field x) (i .signal .data-type);
         fits = h .fits;
       }
 
-  pub unread : typeAt (s .kind) .encoding ≡ unreadable → ReadAs typeOf image at s field (Refused 15 field)
+  pub unread : typeAt (s .data_type) .encoding ≡ unreadable → ReadAs typeOf image at s field (Refused 15 field)
   unfolding storedAs
   unread t =
       record {
         is = λ f x i.
-            ap (λ e. storedAs e (typeAt (s .kind) .order) f field x) (sym t)
-            ∙ ap (λ n. storedAs (typeAt n .encoding) (typeAt n .order) f field x) (i .signal .kind);
+            ap (λ e. storedAs e (typeAt (s .data_type) .order) f field x) (sym t)
+            ∙ ap (λ n. storedAs (typeAt n .encoding) (typeAt n .order) f field x) (i .signal .data-type);
         fits = tt;
       }

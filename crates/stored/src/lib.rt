@@ -8,7 +8,7 @@ ghost use lib.Dec.{eqb};
 ghost use Prim.Native.Nat.{_+_};
 ghost use Rattle.answers.specs.Samples.{Logged, unsignedInteger, signedInteger, singleFloat, doubleFloat, byteRun, typeOf, storedSample};
 ghost use Rattle.reading.specs.Steps.{theChannel, channelPlace};
-ghost use Rattle.stored.specs.Stored.{Room, typed, ReadAs, answerOf, Fits, bigOf, RowAt, LoggedAt, SampleIs};
+ghost use Rattle.stored.specs.Stored.{BitsInside, typed, ReadAs, answerOf, Fits, bigOf, RowAt, LoggedAt, SampleIs};
 
 // Its kind and its bits, or the part of the image that it is.
 pub enum Stored {
@@ -28,7 +28,7 @@ pub enum StoredAnswer {
 }
 
 fn unsigned(image: &[u8], at: usize, s: Signal, big: bool, field: usize) -> StoredAnswer
-    requires { ⌜ Room (now image) at s ⌝ }
+    requires { ⌜ BitsInside (now image) at s ⌝ }
     ensures { λ r. ⌜ ReadAs (typed unsignedInteger big) (now (image .entry)) at s field r ⌝ }
 {
     if 64 < s.bit + s.bits {
@@ -38,7 +38,7 @@ fn unsigned(image: &[u8], at: usize, s: Signal, big: bool, field: usize) -> Stor
 }
 
 fn signed(image: &[u8], at: usize, s: Signal, big: bool, field: usize) -> StoredAnswer
-    requires { ⌜ Room (now image) at s ⌝ }
+    requires { ⌜ BitsInside (now image) at s ⌝ }
     ensures { λ r. ⌜ ReadAs (typed signedInteger big) (now (image .entry)) at s field r ⌝ }
 {
     if 64 < s.bit + s.bits {
@@ -55,7 +55,7 @@ fn fills(s: Signal, width: usize) -> bool
 }
 
 fn single(image: &[u8], at: usize, s: Signal, big: bool, field: usize) -> StoredAnswer
-    requires { ⌜ Room (now image) at s ⌝ }
+    requires { ⌜ BitsInside (now image) at s ⌝ }
     ensures { λ r. ⌜ ReadAs (typed singleFloat big) (now (image .entry)) at s field r ⌝ }
 {
     if !fills(s, 32) {
@@ -65,7 +65,7 @@ fn single(image: &[u8], at: usize, s: Signal, big: bool, field: usize) -> Stored
 }
 
 fn double(image: &[u8], at: usize, s: Signal, big: bool, field: usize) -> StoredAnswer
-    requires { ⌜ Room (now image) at s ⌝ }
+    requires { ⌜ BitsInside (now image) at s ⌝ }
     ensures { λ r. ⌜ ReadAs (typed doubleFloat big) (now (image .entry)) at s field r ⌝ }
 {
     if !fills(s, 64) {
@@ -76,7 +76,7 @@ fn double(image: &[u8], at: usize, s: Signal, big: bool, field: usize) -> Stored
 
 // Text or bytes: a part of the image.
 fn run(image: &[u8], at: usize, s: Signal, field: usize) -> StoredAnswer
-    requires { ⌜ Room (now image) at s ⌝ }
+    requires { ⌜ BitsInside (now image) at s ⌝ }
     ensures { λ r. ⌜ ReadAs (typed byteRun false) (now (image .entry)) at s field r ⌝ }
 {
     let size = s.bits / 8;
@@ -88,20 +88,20 @@ fn run(image: &[u8], at: usize, s: Signal, field: usize) -> StoredAnswer
 }
 
 // Whether a data type has its highest byte first.
-fn big_endian(kind: usize) -> bool
-    ensures { λ r. ⌜ r ≡ bigOf kind ⌝ }
+fn big_endian(data_type: usize) -> bool
+    ensures { λ r. ⌜ r ≡ bigOf data_type ⌝ }
 {
-    9 <= kind && kind <= 12
+    9 <= data_type && data_type <= 12
 }
 
 // The sample of a channel's bits, by its data type.
 fn stored_as(image: &[u8], at: usize, s: Signal, field: usize) -> StoredAnswer
-    requires { ⌜ Room (now image) at s ⌝ }
+    requires { ⌜ BitsInside (now image) at s ⌝ }
     ensures { λ r. ⌜ ReadAs typeOf (now (image .entry)) at s field r ⌝ }
 {
-    let kind = s.kind;
-    let big = big_endian(kind);
-    match kind {
+    let data_type = s.data_type;
+    let big = big_endian(data_type);
+    match data_type {
         0 | 9 | 13 => unsigned(image, at, s, big, field),
         1 | 10 | 14 => signed(image, at, s, big, field),
         2 | 11 | 15 => single(image, at, s, big, field),

@@ -32,18 +32,18 @@ unfolding _>>=_
 counted a (refused k p) n = refl
 counted a (accepted xs) n = ap accepted (omega arith)
 
-no-channels : (image : Image) (left width field : ℕ) → channelList image left width field none ≡ accepted []
+no-channels : (image : Image) (left size field : ℕ) → channelList image left size field none ≡ accepted []
 unfolding channelList
-no-channels image zero width field = refl
-no-channels image (suc left) width field = refl
+no-channels image zero size field = refl
+no-channels image (suc left) size field = refl
 
-module _ (image : Image) (width field l n : ℕ) where
-  pub channels-end : l ≡ 0 → channelsFrom image width field l n ≡ accepted n
+module _ (image : Image) (size field l n : ℕ) where
+  pub channels-end : l ≡ 0 → channelsFrom image size field l n ≡ accepted n
   unfolding channelsFrom
-  channels-end e = rw (e, no-channels image (16384 - n) width field) (ap accepted (omega arith))
+  channels-end e = rw (e, no-channels image (16384 - n) size field) (ap accepted (omega arith))
 
   module _ (h : l ≡ 0 → ⊥) where
-    pub channels-full : n ≡ 16384 → channelsFrom image width field l n ≡ refused 7 field
+    pub channels-full : n ≡ 16384 → channelsFrom image size field l n ≡ refused 7 field
     unfolding channelsFrom channelList
     channels-full e = rw (e, not-nil l h)
 
@@ -51,22 +51,22 @@ module _ (image : Image) (width field l n : ℕ) where
       one-left : 16384 - n ≡ suc (16384 - (n + 1))
       one-left = omega arith
 
-      pub channels-shut : Shut ≡ blockOf l (opening CN image l) → channelsFrom image width field l n ≡ refused 5 field
+      pub channels-shut : Shut ≡ blockOf l (opening CN image l) → channelsFrom image size field l n ≡ refused 5 field
       unfolding channelsFrom channelList
       channels-shut e = rw (not-nil l h, one-left) (ap (mapAnswer (λ xs. n + length xs)) (stop _ (open-shut CN readCn image field l e)))
 
       module _ (b : Span) (s : Stands CN image l b) where
-        pub channels-stop : (k q : ℕ) → Stop k q ≡ stepOf (channelAt image width (openedAs readCn (image .bytes) b)) → channelsFrom image width field l n ≡ refused k q
+        pub channels-stop : (k q : ℕ) → Stop k q ≡ stepOf (channelAt image size (openedAs readCn (image .bytes) b)) → channelsFrom image size field l n ≡ refused k q
         unfolding channelsFrom channelList
         channels-stop k q e =
             rw (not-nil l h, one-left) (ap (mapAnswer (λ xs. n + length xs)) (step _ (open-open CN readCn image field l b s) (stop _ (stopped _ k q e))))
 
-        pub channels-go : Go ≡ stepOf (channelAt image width (openedAs readCn (image .bytes) b))
-            → channelsFrom image width field l n ≡ channelsFrom image width (b .at + 4) (u32 4 (blockIn (image .bytes) b)) (n + 1)
+        pub channels-go : Go ≡ stepOf (channelAt image size (openedAs readCn (image .bytes) b))
+            → channelsFrom image size field l n ≡ channelsFrom image size (b .at + 4) (u32 4 (blockIn (image .bytes) b)) (n + 1)
         unfolding channelsFrom channelList readCn
         channels-go e =
-            let g = went (channelAt image width (openedAs readCn (image .bytes) b)) e in
+            let g = went (channelAt image size (openedAs readCn (image .bytes) b)) e in
             rw (not-nil l h, one-left)
             (ap (mapAnswer (λ xs. n + length xs)) (step _ (open-open CN readCn image field l b s) (step _ (g .1) refl))
             ∙ counted (g .0) _ n
-            ∙ ap (λ p. mapAnswer (λ xs. n + 1 + length xs) (channelList image (16384 - (n + 1)) width (p + 4) (toLink (u32 4 (blockIn (image .bytes) b))))) (sym (s .place)))
+            ∙ ap (λ p. mapAnswer (λ xs. n + 1 + length xs) (channelList image (16384 - (n + 1)) size (p + 4) (toLink (u32 4 (blockIn (image .bytes) b))))) (sym (s .place)))

@@ -27,7 +27,7 @@ StandsAt c field link dgs cgs cns = (c .field ≡ field) × (c .link ≡ link) �
 
 -- from a link on, with n channels before: how many there are then
 unfoldable pub channelsFrom : Image → ℕ → ℕ → ℕ → ℕ → Answer ℕ
-channelsFrom image width field link n = mapAnswer (λ xs. n + length xs) (channelList image (16384 - n) width field (toLink link))
+channelsFrom image size field link n = mapAnswer (λ xs. n + length xs) (channelList image (16384 - n) size field (toLink link))
 
 abbrev pub channelsMet : Walked → Answer ℕ
 channelsMet (Done d) = accepted (d .cns)
@@ -40,7 +40,7 @@ OnlyChannels c (Refused n p) = Unit {0}
 
 -- ---- channel groups
 
--- one group: how many channels there are behind it, with n before
+-- one group: how many channels there are with its own, n without
 unfoldable pub groupAt : Image → ℕ → Bool → ℕ → Span → Answer ℕ
 groupAt image mode known n b =
     after (groupHead image mode known (openedAs readCg (image .bytes) b)) (channelsFrom image (u16 20 (blockIn (image .bytes) b)) (b .at + 8) (u32 8 (blockIn (image .bytes) b)) n)

@@ -40,9 +40,9 @@ fn conversion(image: &[u8], at: usize, link: usize) -> Step
 }
 
 // Whether the bits of a channel lie in a record of this size.
-fn bits_fit(image: &[u8], cn: Span, width: usize) -> bool
-    requires { ⌜ Holds 218 (now image) cn × (width < 65536) ⌝ }
-    ensures { λ r. ⌜ r ≡ bitsFit width (readFields (blockIn (now (image .entry)) cn)) ⌝ }
+fn bits_fit(image: &[u8], cn: Span, size: usize) -> bool
+    requires { ⌜ Holds 218 (now image) cn × (size < 65536) ⌝ }
+    ensures { λ r. ⌜ r ≡ bitsFit size (readFields (blockIn (now (image .entry)) cn)) ⌝ }
 {
     let bits = image::u16_in(image, cn, 188);
     if bits == 0 {
@@ -50,19 +50,19 @@ fn bits_fit(image: &[u8], cn: Span, width: usize) -> bool
     }
     let start = image::u16_in(image, cn, 186);
     let added = image::u16_in(image, cn, 226);
-    start + 8 * added + bits <= 8 * width
+    start + 8 * added + bits <= 8 * size
 }
 
 // Type, bits and data type of a channel.
-fn fields_pass(image: &[u8], cn: Span, width: usize) -> Step
-    requires { ⌜ Holds 218 (now image) cn × (width < 65536) ⌝ }
-    ensures { λ r. ⌜ r ≡ stepOf (fieldsPass width (cn .at) (readFields (blockIn (now (image .entry)) cn))) ⌝ }
+fn fields_pass(image: &[u8], cn: Span, size: usize) -> Step
+    requires { ⌜ Holds 218 (now image) cn × (size < 65536) ⌝ }
+    ensures { λ r. ⌜ r ≡ stepOf (fieldsPass size (cn .at) (readFields (blockIn (now (image .entry)) cn))) ⌝ }
 {
     let at = cn.at;
     if 1 < image::u16_in(image, cn, 24) {
         return Step::Stop(9, at + 24);
     }
-    if !bits_fit(image, cn, width) {
+    if !bits_fit(image, cn, size) {
         return Step::Stop(9, at + 186);
     }
     if 16 < image::u16_in(image, cn, 190) {
@@ -104,16 +104,16 @@ fn channel_last(image: &[u8], cn: Span) -> Step
     Tx::body(image, at + 222, image::u32_in(image, cn, 222))
 }
 
-// What hangs on an opened CN block, in a group of this record size.
-fn channel(image: &[u8], cn: Span, width: usize) -> Step
-    requires { ⌜ Holds 218 (now image) cn × (width < 65536) ⌝ }
-    ensures { λ r. ⌜ r ≡ stepOf (channelAt (imageOf (now (image .entry))) width (openedAs readCn (now (image .entry)) cn)) ⌝ }
+// The bodies that an opened CN block links to, and its fields, in a group of this record size.
+fn channel(image: &[u8], cn: Span, size: usize) -> Step
+    requires { ⌜ Holds 218 (now image) cn × (size < 65536) ⌝ }
+    ensures { λ r. ⌜ r ≡ stepOf (channelAt (imageOf (now (image .entry))) size (openedAs readCn (now (image .entry)) cn)) ⌝ }
 {
     let first = channel_first(image, cn);
     let Step::Go = first else {
         return first;
     };
-    let fields = fields_pass(image, cn, width);
+    let fields = fields_pass(image, cn, size);
     let Step::Go = fields else {
         return fields;
     };
@@ -208,9 +208,9 @@ impl Cursor {
 }
 
 // The channels of a group of this record size, from the cursor's link on.
-fn channel_list(image: &[u8], width: usize, start: Cursor) -> Walked
-    requires { ⌜ (width < 65536) × (start .cns ≤ 16384) ⌝ }
-    ensures { λ r. ⌜ (channelsMet r ≡ channelsFrom (imageOf (now (image .entry))) width (start .field) (start .link) (start .cns)) × OnlyChannels start r ⌝ }
+fn channel_list(image: &[u8], size: usize, start: Cursor) -> Walked
+    requires { ⌜ (size < 65536) × (start .cns ≤ 16384) ⌝ }
+    ensures { λ r. ⌜ (channelsMet r ≡ channelsFrom (imageOf (now (image .entry))) size (start .field) (start .link) (start .cns)) × OnlyChannels start r ⌝ }
 {
     let mut c = start;
     while c.link != 0 {
@@ -222,7 +222,7 @@ fn channel_list(image: &[u8], width: usize, start: Cursor) -> Walked
         let Block::Open(cn) = Cn::open(image, link) else {
             return Walked::Refused(5, field);
         };
-        if let Step::Stop(number, place) = channel(image, cn, width) {
+        if let Step::Stop(number, place) = channel(image, cn, size) {
             return Walked::Refused(number, place);
         }
         c = c.past_cn(cn.at + 4, image::u32_in(image, cn, 4));

@@ -1,4 +1,4 @@
-use Rattle.put_channels.proofs.Spans.{small-span, span-length}
+use Rattle.put_channels.proofs.Written.{small-written, written-length}
 use mathlib.Core.Path.{_∙_, ap, ap₂}
 use Prim.Native.Nat.{_+_}
 use native.Mathlib.Omega.{arith}
@@ -19,13 +19,13 @@ add-tx : tie.Need-add-tx
 add-tx c = search needs
 
 body-length-requires : tie.Need-body-length-requires
-body-length-requires c κs = small-span (c .before .before .before .before .args .image .now) (c .before .comment .result) (c .before .comment .ensures .inside)
+body-length-requires c κs = small-written (c .before .before .before .before .args .image .now) (c .before .comment .result) (c .before .comment .ensures .inside)
 
 add-pr : tie.Need-add-pr
 add-pr c = search needs
 
 body-length-requires-2 : tie.Need-body-length-requires-2
-body-length-requires-2 c κs = small-span (c .before .before .before .before .before .args .image .now) (c .before .program .result) (c .before .program .ensures .inside)
+body-length-requires-2 c κs = small-written (c .before .before .before .before .before .args .image .now) (c .before .program .result) (c .before .program .ensures .inside)
 
 add-first : tie.Need-add-first
 add-first c = search needs
@@ -33,8 +33,8 @@ add-first c = search needs
 returns : tie.Need-returns
 returns c =
     let a = c .before .before .before .before .before .before .args in
-    let l₁ = c .before .body-length .ensures .0 ∙ span-length (a .image .now) (c .before .before .before .comment .result) (c .before .before .before .comment .ensures) in
-    let l₂ = c .body-length2 .ensures .0 ∙ span-length (a .image .now) (c .before .before .program .result) (c .before .before .program .ensures) in
+    let l₁ = c .before .body-length .ensures .0 ∙ written-length (a .image .now) (c .before .before .before .comment .result) (c .before .before .before .comment .ensures) in
+    let l₂ = c .body-length2 .ensures .0 ∙ written-length (a .image .now) (c .before .before .program .result) (c .before .before .program .ensures) in
     let z = c .before .before .before .before .header-size .ensures in
     let e = ap (λ n. 64 + n) (z .0) in
     record {

@@ -20,7 +20,8 @@ returns c =
     let e = c .before .before .before .copy-small .ensures in
     let l : length (a .out .now) ≡ 32768 = omega (arith, c .before .before .before .before .copy-small-arg .given) in
     let bytes = known-bytes (a .image .now) (λ i. omega (arith, c .before .before .before .before .before .shared-slice-known .given i)) in
-    copy-written (a .image .now) (a .out .now) l _ bytes (sym (ap outcome (c .before .copied .given .1)) ∙ e .0) (e .1)
+    let q : length (c .before .before .before .copy-small .last .1 .0) ≡ 32768 = omega arith in
+    copy-written (a .image .now) (a .out .now) l _ bytes (sym (ap outcome (c .before .copied .given .1)) ∙ e .0) (e .1) q
 
 enum-known-copied-2 : tie.Need-enum-known-copied-2
 enum-known-copied-2 c = search needs
@@ -40,7 +41,7 @@ returns-2 c =
     let q : length (c .before .before .before .before .before .before .copy-small .last .1 .0) ≡ 32768 = omega arith in
     let s = rw (c .before .wide .ensures) at (w .0) in
     let k = rw (c .before .wide .ensures) at (w .1) in
-    line-written (a .image .now) (a .out .now) l _ _ _ (sym (ap outcome (c .before .before .before .before .copied2 .given .1)) ∙ e .0) q s k (w .2)
+    line-written (a .image .now) (a .out .now) l _ _ _ (sym (ap outcome (c .before .before .before .before .copied2 .given .1)) ∙ e .0) (e .1) q s k (w .2)
 
 pub output-spec : {M : Type 1} → statement M
 output-spec =

@@ -1,7 +1,7 @@
 use Rattle.reading.specs.Steps.{theGroup}
 use Rattle.reading.proofs.Numbers.{product-small}
 use Rattle.reading.proofs.Promise.{known-bytes, group-well-formed}
-use Rattle.put_channels.proofs.Spans.{small-span, span-length}
+use Rattle.put_channels.proofs.Written.{small-written, written-length}
 use Rattle.put_groups.proofs.Groups.{group-exact, group-over}
 use mathlib.Core.Path.{_∙_}
 use native.Mathlib.Omega.{arith}
@@ -19,7 +19,7 @@ comment-requires : tie.Need-comment-requires
 comment-requires c κs = search needs
 
 body-length-requires : tie.Need-body-length-requires
-body-length-requires c κs = small-span (c .before .before .before .before .args .image .now) (c .comment .result) (c .comment .ensures .inside)
+body-length-requires c κs = small-written (c .before .before .before .before .args .image .now) (c .comment .result) (c .comment .ensures .inside)
 
 add-n : tie.Need-add-n
 add-n c = search needs
@@ -43,7 +43,7 @@ returns : tie.Need-returns
 returns c =
     let a = c .before .before .before .before .before .before .before .before .before .args in
     let ok = group-well-formed _ _ _ _ (c .before .before .before .before .before .before .before .before .before .pre) (known-bytes (a .image .now) (λ i. omega (arith, c .before .before .before .before .before .before .before .before .shared-slice-known .given i))) in
-    let t = c .before .before .before .before .body-length .ensures .0 ∙ span-length (a .image .now) (c .before .before .before .before .before .comment .result) (c .before .before .before .before .before .comment .ensures) in
+    let t = c .before .before .before .before .body-length .ensures .0 ∙ written-length (a .image .now) (c .before .before .before .before .before .comment .result) (c .before .before .before .before .before .comment .ensures) in
     let s = rw (c .before .before .before .before .before .before .before .channels .ensures .2) at (c .before .before .before .before .before .before .channels-sum .ensures .length) in
     (group-over (theGroup (a .image .now) (a .g)) ok _ _ _ _ t s (c .before .before .count .ensures .0) (c .before .size .ensures .0) (c .if1 .taken), omega arith, omega arith)
 
@@ -51,7 +51,7 @@ returns-2 : tie.Need-returns-2
 returns-2 c =
     let a = c .before .before .before .before .before .before .before .before .before .args in
     let ok = group-well-formed _ _ _ _ (c .before .before .before .before .before .before .before .before .before .pre) (known-bytes (a .image .now) (λ i. omega (arith, c .before .before .before .before .before .before .before .before .shared-slice-known .given i))) in
-    let t = c .before .before .before .before .body-length .ensures .0 ∙ span-length (a .image .now) (c .before .before .before .before .before .comment .result) (c .before .before .before .before .before .comment .ensures) in
+    let t = c .before .before .before .before .body-length .ensures .0 ∙ written-length (a .image .now) (c .before .before .before .before .before .comment .result) (c .before .before .before .before .before .comment .ensures) in
     let s = rw (c .before .before .before .before .before .before .before .channels .ensures .2) at (c .before .before .before .before .before .before .channels-sum .ensures .length) in
     (group-exact (theGroup (a .image .now) (a .g)) ok _ _ _ _ t s (c .before .before .count .ensures .0) (c .before .size .ensures .0) (omega (arith, c .if1 .left)), omega arith, omega (arith, c .if1 .left))
 

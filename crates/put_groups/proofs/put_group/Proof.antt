@@ -2,7 +2,7 @@ use Rattle.reading.specs.Steps.{theGroup}
 use Rattle.reading.proofs.Promise.{known-bytes, group-well-formed}
 use Rattle.answers.specs.Copies.{channelsLength}
 use Rattle.answers.proofs.Laws.{length-records}
-use Rattle.put_channels.proofs.Spans.{small-span, span-length}
+use Rattle.put_channels.proofs.Written.{small-written, written-length}
 use Rattle.put_groups.proofs.Groups.{known-of, group-written}
 use Prim.Native.Nat.{_+_}
 use mathlib.Core.Path.{_∙_, ap}
@@ -32,11 +32,11 @@ add-tx c = search needs
 put-body-requires : tie.Need-put-body-requires
 put-body-requires c κs =
     let a = c .before .before .before .before .before .before .before .before .before .before .args in
-    let l = span-length (a .image .now) (c .before .before .before .before .before .before .before .comment .result) (c .before .before .before .before .before .before .before .comment .ensures) in
+    let l = written-length (a .image .now) (c .before .before .before .before .before .before .before .comment .result) (c .before .before .before .before .before .before .before .comment .ensures) in
     (c .before .before .before .before .before .before .before .comment .ensures .inside, omega (arith, l, c .before .before .before .before .before .before .before .before .before .before .pre .2, c .before .before .before .put-heads .kept .0))
 
 body-length-requires : tie.Need-body-length-requires
-body-length-requires c κs = small-span (c .before .before .before .before .before .before .before .before .before .before .before .before .before .args .image .now) (c .before .before .before .before .before .before .before .before .before .before .comment .result) (c .before .before .before .before .before .before .before .before .before .before .comment .ensures .inside)
+body-length-requires c κs = small-written (c .before .before .before .before .before .before .before .before .before .before .before .before .before .args .image .now) (c .before .before .before .before .before .before .before .before .before .before .comment .result) (c .before .before .before .before .before .before .before .before .before .before .comment .ensures .inside)
 
 add-cn : tie.Need-add-cn
 add-cn c = search needs
@@ -47,19 +47,19 @@ channels-requires-2 c κs = search needs
 put-channels-requires : tie.Need-put-channels-requires
 put-channels-requires c κs =
     let a = c .before .before .before .before .before .before .before .before .before .before .before .before .before .before .before .before .args in
-    let l = c .before .before .body-length .ensures .0 ∙ span-length (a .image .now) (c .before .before .before .before .before .before .before .before .before .before .before .before .before .comment .result) (c .before .before .before .before .before .before .before .before .before .before .before .before .before .comment .ensures) in
+    let l = c .before .before .body-length .ensures .0 ∙ written-length (a .image .now) (c .before .before .before .before .before .before .before .before .before .before .before .before .before .comment .result) (c .before .before .before .before .before .before .before .before .before .before .before .before .before .comment .ensures) in
     (c .channels2 .ensures .0, omega (arith, l, ap channelsLength (c .channels2 .ensures .2), c .before .before .before .before .before .before .before .before .before .before .before .before .before .before .before .before .pre .2, c .before .before .before .before .before .before .before .before .before .put-heads .kept .0, c .before .before .before .before .before .put-body .kept .0))
 
 add-put-records : tie.Need-add-put-records
 add-put-records c =
     let a = c .before .before .before .before .before .before .before .before .before .before .before .before .before .before .before .before .before .before .before .before .before .args in
-    let l = c .before .before .before .before .before .before .before .body-length .ensures .0 ∙ span-length (a .image .now) (c .before .before .before .before .before .before .before .before .before .before .before .before .before .before .before .before .before .before .comment .result) (c .before .before .before .before .before .before .before .before .before .before .before .before .before .before .before .before .before .before .comment .ensures) in
+    let l = c .before .before .before .before .before .before .before .body-length .ensures .0 ∙ written-length (a .image .now) (c .before .before .before .before .before .before .before .before .before .before .before .before .before .before .before .before .before .before .comment .result) (c .before .before .before .before .before .before .before .before .before .before .before .before .before .before .before .before .before .before .comment .ensures) in
     omega (arith, l, c .before .before .before .before .before .before .before .before .before .before .before .before .before .before .before .before .before .before .before .before .before .pre .2, c .before .before .before .before .before .before .before .before .before .before .before .before .before .before .before .before .before .before .before .before .before .good, c .before .before .before .before .before .before .before .before .before .before .before .before .before .before .before .before .channels-sum .ensures .near)
 
 put-records-requires : tie.Need-put-records-requires
 put-records-requires c κs =
     let a = c .before .before .before .before .before .before .before .before .before .before .before .before .before .before .before .before .before .before .before .before .before .args in
-    let l = c .before .before .before .before .before .before .before .body-length .ensures .0 ∙ span-length (a .image .now) (c .before .before .before .before .before .before .before .before .before .before .before .before .before .before .before .before .before .before .comment .result) (c .before .before .before .before .before .before .before .before .before .before .before .before .before .before .before .before .before .before .comment .ensures) in
+    let l = c .before .before .before .before .before .before .before .body-length .ensures .0 ∙ written-length (a .image .now) (c .before .before .before .before .before .before .before .before .before .before .before .before .before .before .before .before .before .before .comment .result) (c .before .before .before .before .before .before .before .before .before .before .before .before .before .before .before .before .before .before .comment .ensures) in
     let s = rw (c .before .before .before .before .before .before .before .before .before .before .before .before .before .before .before .before .before .channels .ensures .2) at (c .before .before .before .before .before .before .before .before .before .before .before .before .before .before .before .before .channels-sum .ensures) in
     let k = known-of (a .image .now) (a .g) (c .before .before .before .before .before .before .before .before .before .before .before .before .before .before .before .before .before .before .comment .result) (c .before .before .before .before .before .before .before .before .before .before .before .before .before .before .before .before .channels-sum .result) (c .before .before .before .before .before .before .before .before .before .before .before .before .before .before .before .before .before .before .before .before .before .pre .0) (c .before .before .before .before .before .before .before .before .before .before .before .before .before .before .before .before .before .before .comment .ensures) s (c .before .before .before .before .before .before .before .before .before .before .before .before .before .before .before .before .before .before .before .before .before .pre .1) in
     (c .before .before .before .before .before .before .before .before .before .before .before .before .before .before .before .before .before .before .before .before .before .pre .0, omega (arith, l, k .long, length-records (theGroup (a .image .now) (a .g) .records), c .before .before .before .before .before .before .before .before .before .before .before .before .before .before .before .before .before .before .before .before .before .pre .2, c .before .before .before .before .before .before .before .before .before .before .before .before .before .before .put-heads .kept .0, c .before .before .before .before .before .before .before .before .before .before .put-body .kept .0, c .before .before .before .before .put-channels .kept .0))
@@ -71,7 +71,7 @@ returns : tie.Need-returns
 returns c =
     let a = c .before .before .before .before .before .before .before .before .before .before .before .before .before .before .before .before .before .before .before .before .before .before .before .before .args in
     let ok = group-well-formed _ _ _ _ (c .before .before .before .before .before .before .before .before .before .before .before .before .before .before .before .before .before .before .before .before .before .before .before .before .pre .0) (known-bytes (a .image .now) (λ i. omega (arith, c .before .before .before .before .before .before .before .before .before .before .before .before .before .before .before .before .before .before .before .before .before .before .shared-slice-known .given i))) in
-    let l = ap (λ n. a .at + 58 + n) (c .before .before .before .before .before .before .before .before .before .before .body-length .ensures .0 ∙ span-length (a .image .now) (c .before .before .before .before .before .before .before .before .before .before .before .before .before .before .before .before .before .before .before .before .before .comment .result) (c .before .before .before .before .before .before .before .before .before .before .before .before .before .before .before .before .before .before .before .before .before .comment .ensures)) in
+    let l = ap (λ n. a .at + 58 + n) (c .before .before .before .before .before .before .before .before .before .before .body-length .ensures .0 ∙ written-length (a .image .now) (c .before .before .before .before .before .before .before .before .before .before .before .before .before .before .before .before .before .before .before .before .before .comment .result) (c .before .before .before .before .before .before .before .before .before .before .before .before .before .before .before .before .before .before .before .before .before .comment .ensures)) in
     let s = rw (c .before .before .before .before .before .before .before .before .before .before .before .before .before .before .before .before .before .before .before .before .channels .ensures .2) at (c .before .before .before .before .before .before .before .before .before .before .before .before .before .before .before .before .before .before .before .channels-sum .ensures) in
     let k = known-of (a .image .now) (a .g) (c .before .before .before .before .before .before .before .before .before .before .before .before .before .before .before .before .before .before .before .before .before .comment .result) (c .before .before .before .before .before .before .before .before .before .before .before .before .before .before .before .before .before .before .before .channels-sum .result) (c .before .before .before .before .before .before .before .before .before .before .before .before .before .before .before .before .before .before .before .before .before .before .before .before .pre .0) (c .before .before .before .before .before .before .before .before .before .before .before .before .before .before .before .before .before .before .before .before .before .comment .ensures) s (c .before .before .before .before .before .before .before .before .before .before .before .before .before .before .before .before .before .before .before .before .before .before .before .before .pre .1) in
     let w = rw (c .before .before .before .before .before .before .before .before .channels2 .ensures .2) at (c .before .before .before .before .before .before .before .put-channels .ensures) in

@@ -1,6 +1,6 @@
 use Rattle.write.specs.Write.{then, wrote-as}
 use Rattle.reading.specs.Steps.{theGroup}
-use Rattle.put_channels.proofs.Spans.{small-span, span-length, span-link}
+use Rattle.put_channels.proofs.Written.{small-written, written-length, written-link}
 use Rattle.put_groups.proofs.Groups.{heads-as, dg-length}
 use Prim.Native.Nat.{_+_}
 use mathlib.Core.Path.{refl, sym, _∙_, ap}
@@ -12,7 +12,7 @@ add-tx : tie.Need-add-tx
 add-tx c = search needs
 
 body-length-requires : tie.Need-body-length-requires
-body-length-requires c κs = small-span (c .before .before .args .image .now) (c .before .before .args .comment) (c .before .before .pre .0 .comment .inside)
+body-length-requires c κs = small-written (c .before .before .args .image .now) (c .before .before .args .comment) (c .before .before .pre .0 .comment .inside)
 
 add-cn : tie.Need-add-cn
 add-cn c = search needs
@@ -54,8 +54,8 @@ returns : tie.Need-returns
 returns c =
     let a = c .before .before .before .before .before .before .before .before .before .before .before .before .before .before .before .before .before .args in
     let k = c .before .before .before .before .before .before .before .before .before .before .before .before .before .before .before .before .before .pre .0 in
-    let l = ap (λ n. a .at + 58 + n) (c .before .before .before .before .before .before .before .before .before .before .before .before .before .before .body-length .ensures .0 ∙ span-length (a .image .now) (a .comment) (k .comment)) in
-    let t = c .before .before .before .before .before .body-link .ensures ∙ span-link (a .image .now) (a .at + 58) (a .comment) (k .comment) in
+    let l = ap (λ n. a .at + 58 + n) (c .before .before .before .before .before .before .before .before .before .before .before .before .before .before .body-length .ensures .0 ∙ written-length (a .image .now) (a .comment) (k .comment)) in
+    let t = c .before .before .before .before .before .body-link .ensures ∙ written-link (a .image .now) (a .at + 58) (a .comment) (k .comment) in
     wrote-as (then (c .before .before .before .before .before .before .before .before .before .put-dg .ensures) (c .before .before .put-cg .ensures) (ap (λ n. a .at + n) (sym (dg-length _ _ _)))) refl
     (heads-as _ _ _ _ _ _ _ _ _ _ (theGroup (a .image .now) (a .g)) l (k .long) (c .before .before .before .before .before .before .before .before .before .before .link-if .ensures) (c .before .before .before .before .before .before .link-if2 .ensures) t (k .many) (c .before .before .before .size .ensures .0) (c .before .before .before .before .before .before .before .before .before .before .before .before .before .count .ensures .0))
 

@@ -15,7 +15,7 @@ returns : tie.Need-returns
 returns c =
     let a = c .before .before .before .args in
     let f = readFields (blockIn (now (a .image)) (a .cn)) in
-    bits-none (a .width) f (sym (bits-is _ _ (c .before .before .before .pre .0)) ∙ sym (c .before .u16-in .ensures .0) ∙ c .if1 .taken)
+    bits-none (a .size) f (sym (bits-is _ _ (c .before .before .before .pre .0)) ∙ sym (c .before .u16-in .ensures .0) ∙ c .if1 .taken)
 
 u16-in-requires-2 : tie.Need-u16-in-requires-2
 u16-in-requires-2 c κs = search needs
@@ -41,7 +41,7 @@ returns-2 c =
     let f = readFields (blockIn (now (a .image)) (a .cn)) in
     let h = c .before .before .before .before .before .pre .0 in
     let b = c .before .before .before .u16-in .ensures .0 ∙ bits-is _ _ h in
-    rw (c .before .u16-in2 .ensures .0 ∙ start-is _ _ h, b, c .u16-in3 .ensures .0) (bits-some (a .width) f (λ e. c .before .before .if1 .left (b ∙ e)))
+    rw (c .before .u16-in2 .ensures .0 ∙ start-is _ _ h, b, c .u16-in3 .ensures .0) (bits-some (a .size) f (λ e. c .before .before .if1 .left (b ∙ e)))
 
 pub bits-fit-spec : {M : Type 1} → statement M
 bits-fit-spec =

@@ -10,15 +10,15 @@ use Rattle.walk.proofs.channel_list.Statement.{statement}
 use Rattle.walk.proofs.channel_list.Tie as tie
 
 abbrev Inv-loop : tie.InvT-loop
-Inv-loop image width c₀ c =
+Inv-loop image size c₀ c =
     (c .dgs ≡ c₀ .dgs)
     × (c .cgs ≡ c₀ .cgs)
     × (c₀ .cns ≤ c .cns)
     × (c .cns ≤ 16384)
-    × (channelsFrom (imageOf image) width (c₀ .field) (c₀ .link) (c₀ .cns) ≡ channelsFrom (imageOf image) width (c .field) (c .link) (c .cns))
+    × (channelsFrom (imageOf image) size (c₀ .field) (c₀ .link) (c₀ .cns) ≡ channelsFrom (imageOf image) size (c .field) (c .link) (c .cns))
 
 abbrev μ-loop : tie.MeasureT-loop
-μ-loop image width c₀ c = 16384 - c .cns
+μ-loop image size c₀ c = 16384 - c .cns
 
 loop-holds : tie.Need-loop-holds Inv-loop μ-loop
 loop-holds c = (refl, refl, omega arith, omega arith, refl)
@@ -81,7 +81,7 @@ loop-again c =
     let m = c .past-cn .ensures in
     let s = stands CN _ _ _ (sym (c .before .before .before .before .before .before .before .cn .given .1) ∙ c .before .before .before .before .before .before .before .before .before .«open» .ensures) in
     let below : l .c .cns < 16384 = omega (arith, l .inv .3, c .before .before .before .before .before .before .before .before .before .before .if2 .left) in
-    let g = channels-go _ (c .before .before .before .before .before .before .before .before .before .before .before .before .before .before .before .before .args .width) (l .c .field) _ _ (c .before .before .before .before .before .before .before .before .before .before .before .before .if1 .taken) below _ s (sym (c .before .before .before .enum-told2 .given .1) ∙ c .before .before .before .before .before .channel .ensures) in (
+    let g = channels-go _ (c .before .before .before .before .before .before .before .before .before .before .before .before .before .before .before .before .args .size) (l .c .field) _ _ (c .before .before .before .before .before .before .before .before .before .before .before .before .if1 .taken) below _ s (sym (c .before .before .before .enum-told2 .given .1) ∙ c .before .before .before .before .before .channel .ensures) in (
       m .2 ∙ l .inv .0,
       m .3 ∙ l .inv .1,
       omega (arith, m .4, l .inv .2),

@@ -2,8 +2,8 @@ use Rattle.reading.proofs.Promise.{file-long}
 use Rattle.copy.proofs.Fronts.{header-as, front-written}
 use native.Mathlib.Omega.{arith}
 use borrow.Author.Needs.{needs}
-use Rattle.copy.proofs.put_front.Statement.{statement}
-use Rattle.copy.proofs.put_front.Tie as tie
+use Rattle.copy.proofs.put_id_hd.Statement.{statement}
+use Rattle.copy.proofs.put_id_hd.Tie as tie
 
 put-id-requires : tie.Need-put-id-requires
 put-id-requires c κs = (omega (arith, c .before .before .before .pre .3), omega (arith, file-long _ _ (c .before .before .before .pre .0)))
@@ -32,8 +32,8 @@ returns c =
     let p = c .before .before .before .before .before .before .before .before .before .before .before .before .before .before .pre in
     front-written (a .image .now) (a .f) (p .0) (header-as (a .image .now) (a .front) (p .1) _ _ _ _ _ (c .before .before .before .before .before .before .link-if .ensures) (c .before .before .before .before .before .body-link .ensures) (c .before .before .before .before .body-link2 .ensures) (p .2) (c .before .before .before .before .before .before .before .fields .ensures)) (c .before .before .before .before .before .before .before .before .before .before .put-id .ensures) (c .before .before .put-hd .ensures)
 
-pub put-front-spec : {M : Type 1} → statement M
-put-front-spec =
+pub put-id-hd-spec : {M : Type 1} → statement M
+put-id-hd-spec =
     tie.close
     (tie.spec
     put-id-requires
