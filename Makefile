@@ -5,6 +5,7 @@ CFLAGS ?= -O2
 WARNINGS = -std=c99 -Wall -Wextra -Werror -pedantic
 VERSION = $(shell sed -n 's/^\#define MDF3_VERSION "\(.*\)"$$/\1/p' include/mdf3.h)
 SOURCES = $(wildcard tool/*.c)
+TO = $(DESTDIR)$(PREFIX)
 
 all: build/libmdf3.a build/mdf3
 
@@ -23,14 +24,18 @@ build/libmdf3.so: build/libmdf3.a
 
 # what is built; where nothing is, it is built first. So it needs no rt, nor writes here, where another user installs.
 install:
+	@case '$(PREFIX)' in /*) ;; *) echo 'PREFIX has to begin with /' >&2; exit 1 ;; esac
 	@[ -e build/libmdf3.a ] && [ -e build/mdf3 ] || $(MAKE) --no-print-directory all
-	install -d $(DESTDIR)$(PREFIX)/include $(DESTDIR)$(PREFIX)/lib/pkgconfig $(DESTDIR)$(PREFIX)/bin $(DESTDIR)$(PREFIX)/share/man/man1
-	install -m 644 include/mdf3.h $(DESTDIR)$(PREFIX)/include/
-	install -m 644 build/libmdf3.a $(DESTDIR)$(PREFIX)/lib/
-	sed -e 's|@PREFIX@|$(PREFIX)|' -e 's|@VERSION@|$(VERSION)|' tool/mdf3.pc.in >$(DESTDIR)$(PREFIX)/lib/pkgconfig/mdf3.pc
-	chmod 644 $(DESTDIR)$(PREFIX)/lib/pkgconfig/mdf3.pc
-	install -m 755 build/mdf3 $(DESTDIR)$(PREFIX)/bin/
-	install -m 644 tool/mdf3.1 $(DESTDIR)$(PREFIX)/share/man/man1/
+	install -d '$(TO)/include' '$(TO)/lib/pkgconfig' '$(TO)/bin' '$(TO)/share/man/man1'
+	install -m 644 include/mdf3.h '$(TO)/include/mdf3.h'
+	install -m 644 build/libmdf3.a '$(TO)/lib/libmdf3.a'
+	sed -e 's|@PREFIX@|$(PREFIX)|' -e 's|@VERSION@|$(VERSION)|' tool/mdf3.pc.in >'$(TO)/lib/pkgconfig/mdf3.pc'
+	chmod 644 '$(TO)/lib/pkgconfig/mdf3.pc'
+	install -m 755 build/mdf3 '$(TO)/bin/mdf3'
+	install -m 644 tool/mdf3.1 '$(TO)/share/man/man1/mdf3.1'
+
+uninstall:
+	rm -f '$(TO)/include/mdf3.h' '$(TO)/lib/libmdf3.a' '$(TO)/lib/pkgconfig/mdf3.pc' '$(TO)/bin/mdf3' '$(TO)/share/man/man1/mdf3.1'
 
 test:
 	.ci/run
@@ -50,4 +55,4 @@ fuzz:
 clean:
 	rm -rf build
 
-.PHONY: all install test demo bench fuzz clean
+.PHONY: all install uninstall test demo bench fuzz clean

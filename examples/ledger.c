@@ -3,13 +3,15 @@
  *   ledger FILE GROUP CHANNEL
  *
  * Nothing has to be checked first: every call checks the image itself and says what is wrong with it. The check here only
- * comes early, and the copy is what one would keep: one form for all files that say the same. The exit status is 0 for a
- * line that can be posted, 1 for a file that is refused, 2 for an argument, a file or memory that failed.
+ * comes early, and the copy is what one would keep: one form for all files that say the same, so that equal copies show a
+ * file that has been posted before. The exit status is 0 for a line that can be posted, 1 for a file that is refused (also
+ * one without a record to post), 2 for an argument, a file, memory or an output that failed.
  *
  * Every call checks the whole image, so a channel of n records costs n checks: fine for small files. This is C99 and C++. */
 #include "mdf3.h"
 
 #include <errno.h>
+#include <math.h>
 #include <stdio.h>
 #include <stdlib.h>
 #include <string.h>
@@ -88,8 +90,11 @@ static int post_copy(const char *name, const uint8_t *copy, size_t length, uint6
     uint64_t count;
     double total = 0;
     uint32_t number = add_up(copy, length, group, channel, answer, &count, &total);
+    /* behind a record, "no such record" is the end; at the first it may be the group or the channel that is not there */
     if (number != MDF3_NO_SUCH || count == 0)
         return refused(name, number, answer);
+    if (!isfinite(total))
+        return trouble(name, "the total is too large");
     printf("%s: %llu records, total %.2f\n", name, (unsigned long long)count, total);
     return 0;
 }
@@ -130,5 +135,7 @@ int main(int argc, char **argv)
         return trouble(argv[1], "cannot be read");
     result = post(argv[1], image, length, group, channel);
     free(image);
+    if (fflush(stdout) != 0 || ferror(stdout))
+        return trouble("standard output", "cannot be written");
     return result;
 }

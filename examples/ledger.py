@@ -6,6 +6,8 @@ usage: ledger.py LIBRARY FILE GROUP CHANNEL
 LIBRARY is the shared library: make build/libmdf3.so
 """
 import ctypes
+import math
+import os
 import struct
 import sys
 
@@ -88,6 +90,16 @@ def trouble(what):
     sys.exit(2)
 
 
+def tell(line):
+    try:
+        os.fstat(1)
+        print(line, flush=True)
+    except OSError:
+        # nothing is left to be written at the end
+        os.dup2(os.open(os.devnull, os.O_WRONLY), 1)
+        trouble("standard output: cannot be written")
+
+
 def main():
     try:
         path, name, group, channel = sys.argv[1:]
@@ -97,14 +109,20 @@ def main():
     try:
         with open(name, "rb") as file:
             image = file.read()
-    except OSError:
+    except (OSError, MemoryError):
         trouble("%s: cannot be read" % name)
     try:
         count, total = post(Library(path), image, group, channel)
     except Refused as refused:
-        print("%s: refused, %d at %d" % ((name,) + refused.args))
+        tell("%s: refused, %d at %d" % ((name,) + refused.args))
         sys.exit(1)
-    print("%s: %d records, total %.2f" % (name, count, total))
+    except OSError:
+        trouble("%s: cannot be loaded" % path)
+    except MemoryError:
+        trouble("%s: no memory for its copy" % name)
+    if not math.isfinite(total):
+        trouble("%s: the total is too large" % name)
+    tell("%s: %d records, total %.2f" % (name, count, total))
 
 
 if __name__ == "__main__":

@@ -3,7 +3,9 @@
 //!     ledger FILE GROUP CHANNEL
 
 use std::env;
+use std::ffi::OsString;
 use std::fs;
+use std::io::{self, Write};
 use std::process::ExitCode;
 
 extern "C" {
@@ -96,35 +98,42 @@ fn post(image: &[u8], group: u64, channel: u64) -> Result<(u64, f64), Refused> {
 }
 
 /// FILE GROUP CHANNEL; the numbers in decimal digits alone.
-fn arguments() -> Option<(String, u64, u64)> {
-    let number = |word: &String| match word.starts_with('+') {
-        false => word.parse().ok(),
-        true => None,
+fn arguments() -> Option<(OsString, u64, u64)> {
+    let words: Vec<OsString> = env::args_os().skip(1).collect();
+    let number = |word: &OsString| {
+        let digits = word.to_str().filter(|text| text.bytes().all(|byte| byte.is_ascii_digit()))?;
+        digits.parse().ok()
     };
-    let words: Vec<String> = env::args_os().skip(1).map(|word| word.into_string()).collect::<Result<_, _>>().ok()?;
     match &words[..] {
         [name, group, channel] => Some((name.clone(), number(group)?, number(channel)?)),
         _ => None,
     }
 }
 
+fn trouble(what: &str) -> ExitCode {
+    eprintln!("{what}");
+    ExitCode::from(2)
+}
+
+/// Prints a line, and gives the status that goes with it.
+fn tell(line: &str, status: u8) -> ExitCode {
+    match writeln!(io::stdout(), "{line}").and_then(|()| io::stdout().flush()) {
+        Ok(()) => ExitCode::from(status),
+        Err(_) => trouble("standard output: cannot be written"),
+    }
+}
+
 fn main() -> ExitCode {
-    let Some((name, group, channel)) = arguments() else {
-        eprintln!("usage: ledger FILE GROUP CHANNEL");
-        return ExitCode::from(2);
+    let Some((path, group, channel)) = arguments() else {
+        return trouble("usage: ledger FILE GROUP CHANNEL");
     };
-    let Ok(image) = fs::read(&name) else {
-        eprintln!("{name}: cannot be read");
-        return ExitCode::from(2);
+    let name = path.to_string_lossy();
+    let Ok(image) = fs::read(&path) else {
+        return trouble(&format!("{name}: cannot be read"));
     };
     match post(&image, group, channel) {
-        Ok((count, total)) => {
-            println!("{name}: {count} records, total {total:.2}");
-            ExitCode::SUCCESS
-        }
-        Err(Refused(number, place)) => {
-            println!("{name}: refused, {number} at {place}");
-            ExitCode::from(1)
-        }
+        Ok((_, total)) if !total.is_finite() => trouble(&format!("{name}: the total is too large")),
+        Ok((count, total)) => tell(&format!("{name}: {count} records, total {total:.2}"), 0),
+        Err(Refused(number, place)) => tell(&format!("{name}: refused, {number} at {place}"), 1),
     }
 }

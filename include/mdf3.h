@@ -97,7 +97,9 @@ extern "C" {
  * the place. */
 #define MDF3_NO_ROOM 13
 /* No such channel group, no such channel of it or no such record of it.
- * Place 0. */
+ * Place 0. It is the same number for all three: at record 0 it can be any of
+ * them, or a group without records; behind a record that was read it is the
+ * end of the group's records. */
 #define MDF3_NO_SUCH 14
 /* The sample cannot be read: the place of the channel's data type. The channel
  * has no bits; an integer takes more than 64 bits, with those below it in its
@@ -138,10 +140,15 @@ uint32_t mdf3_check(const uint8_t *image, size_t image_len, uint8_t answer[MDF3_
  * to make. It can be far more than the image has, since what is shared
  * there is written once for every use. Length and kind are 0.
  *
+ * Two images have equal copies, byte for byte, exactly when they say the
+ * same, whatever their layout: so a copy that is there already shows a file
+ * that came before. Groups, channels and records have the same numbers in the
+ * copy as in the image, and the same samples.
+ *
  * In a copy every block has the size of its kind and stands where the rules'
- * section 4 says, so the numbers of groups, channels and records and the names
- * of channels can be read from it by following its links; tool/list.c in the
- * source does so.
+ * section 4 says, so how many groups, channels and records there are, and the
+ * names and units of channels, can be read from it by following its links;
+ * tool/list.c in the source does so.
  */
 uint32_t mdf3_copy(const uint8_t *image, size_t image_len, uint8_t *out, size_t out_len,
                    uint8_t answer[MDF3_ANSWER_SIZE]);

@@ -48,6 +48,7 @@ static void check_one(const char *name, struct sum *s)
     struct file f;
     uint32_t number = MDF3_TOO_LONG;
     uint64_t place = 0;
+    const char *why;
     switch (load(name, &f)) {
     case LOADED:
         number = mdf3_check(f.bytes, f.length, answer);
@@ -57,8 +58,9 @@ static void check_one(const char *name, struct sum *s)
     case TOO_LONG:
         break;
     default:
+        why = strerror(errno);
         print_name(stdout, name);
-        printf(": not read: %s\n", strerror(errno));
+        printf(": not read: %s\n", why);
         s->unread++;
         return;
     }

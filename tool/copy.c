@@ -35,7 +35,9 @@ int copy_command(int count, char **names)
     unload(&image);
     if (result != DONE)
         return result;
-    result = put(from, to, &copy);
+    /* it may have changed while the file was read */
+    against = not_to_write(from, to);
+    result = against == NULL ? put(from, to, &copy) : complain(to, against, NULL);
     unload(&copy);
     return result;
 }

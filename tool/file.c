@@ -45,13 +45,17 @@ static enum loaded read_all(int fd, struct file *f, size_t room)
 static enum loaded load_from(int fd, struct file *f)
 {
     struct stat about;
-    size_t room = 0;
+    size_t room = 65536;
     if (fstat(fd, &about) != 0)
         return UNREAD;
-    if (S_ISREG(about.st_mode) && about.st_size > (off_t)MOST)
-        return TOO_LONG;
-    /* one byte more than it has now, so that its end shows without another turn */
-    room = S_ISREG(about.st_mode) ? (size_t)about.st_size + 1 : 65536;
+    if (S_ISREG(about.st_mode)) {
+        /* standard input need not stand at its start */
+        off_t at = lseek(fd, 0, SEEK_CUR), left = about.st_size - (at > 0 ? at : 0);
+        if (left > (off_t)MOST)
+            return TOO_LONG;
+        /* one byte more than it has now, so that its end shows without another turn */
+        room = (size_t)(left > 0 ? left : 0) + 1;
+    }
     f->bytes = malloc(room);
     if (f->bytes == NULL)
         return UNREAD;

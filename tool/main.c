@@ -23,7 +23,7 @@ static const char help[] =
     "\n"
     "FILE is an MDF 3 file (versions 3.00 to 3.99), - for standard input. Groups, channels and records count from 0, as list\n"
     "shows them. A line of an answer has a number and a place: 0 0, or why the file is refused and at which byte. OUT is\n"
-    "written whole or not at all, and never where it is FILE. A -- ends the options: what follows may begin with -.\n"
+    "written whole or not at all, never where it is FILE, and cannot be -. Behind a -- names may begin with -.\n"
     "\n"
     "Exit status: 0 done, 1 refused, 2 trouble with an argument, a file, memory or the disk.\n";
 
@@ -54,20 +54,23 @@ static int tell_help(void)
     return DONE;
 }
 
-/* Options come first; the arguments are what is left. */
+/* The arguments are what is left without the options. */
 static int run(const struct command *c, int count, char **words)
 {
-    if (count > 0 && strcmp(words[0], "--help") == 0)
-        return tell_help();
-    if (count > 0 && strcmp(words[0], "--") == 0) {
-        count--;
-        words++;
-    } else if (count > 0 && words[0][0] == '-' && words[0][1] != '\0') {
-        return wrong(words[0], "no such option");
+    int left = 0, ended = 0;
+    for (int i = 0; i < count; i++) {
+        if (ended || words[i][0] != '-' || words[i][1] == '\0')
+            words[left++] = words[i];
+        else if (strcmp(words[i], "--") == 0)
+            ended = 1;
+        else if (strcmp(words[i], "--help") == 0)
+            return tell_help();
+        else
+            return wrong(words[i], "no such option");
     }
-    if (count < c->least || count > c->most)
+    if (left < c->least || left > c->most)
         return wrong(c->name, c->takes);
-    return c->run(count, words);
+    return c->run(left, words);
 }
 
 static int start(int count, char **words)

@@ -33,7 +33,7 @@ const char *not_to_write(const char *from, const char *to)
     if (strcmp(to, "-") == 0)
         return "is not written: give the name of a file";
     if (stat(to, &target) != 0)
-        return lstat(to, &target) == 0 ? "is a link that leads to no file, and is not written" : NULL;
+        return lstat(to, &target) == 0 ? "is a link that leads to no file that can be found, and is not written" : NULL;
     if (strcmp(from, "-") == 0 ? open_as(STDIN_FILENO, &target) : stat(from, &source) == 0 && same_file(&source, &target))
         return "is the file to copy, and is not written over";
     if (!S_ISREG(target.st_mode))
@@ -56,18 +56,27 @@ static void ended(int number)
     raise(number);
 }
 
+/* Whether a program ends by this signal, if it does nothing about it. */
+static int ends(int number)
+{
+    static const int others[] = {SIGCHLD, SIGCONT, SIGSTOP, SIGTSTP, SIGTTIN, SIGTTOU, SIGURG, SIGWINCH};
+    for (size_t i = 0; i < sizeof others / sizeof others[0]; i++)
+        if (number == others[i])
+            return 0;
+    return 1;
+}
+
 static void watch(void)
 {
-    static const int numbers[] = {SIGHUP,  SIGINT,  SIGQUIT, SIGPIPE,   SIGALRM, SIGTERM,
-                                  SIGUSR1, SIGUSR2, SIGXCPU, SIGVTALRM, SIGPROF};
     struct sigaction before, action;
     memset(&action, 0, sizeof action);
     action.sa_handler = ended;
     action.sa_flags = (int)SA_RESETHAND;
     sigfillset(&action.sa_mask);
-    for (size_t i = 0; i < sizeof numbers / sizeof numbers[0]; i++)
-        if (sigaction(numbers[i], NULL, &before) == 0 && before.sa_handler != SIG_IGN)
-            sigaction(numbers[i], &action, NULL);
+    /* some numbers can't be caught, and nothing is done about them */
+    for (int number = 1; number <= SIGRTMAX; number++)
+        if (ends(number) && sigaction(number, NULL, &before) == 0 && before.sa_handler != SIG_IGN)
+            sigaction(number, &action, NULL);
 }
 
 /* Makes the file. No signal comes between it and the note that it is there. */
@@ -118,26 +127,32 @@ static int write_all(int fd, const uint8_t *bytes, size_t length)
     return 0;
 }
 
-/* Owner and access of the file that it replaces, as far as the system allows; else those of a new file. */
-static int set_access(int fd, const struct stat *former)
+/* Owner and access of the file that it replaces, else those of a new file; as far as the system allows. */
+static void set_access(int fd, const struct stat *former)
 {
-    mode_t mask, access;
+    mode_t access;
     if (former == NULL) {
-        mask = umask(0);
-        umask(mask);
-        return fchmod(fd, 0666 & ~mask);
+        access = umask(0);
+        umask(access);
+        access = 0666 & ~access;
+    } else {
+        access = former->st_mode & 0777;
+        /* a group that can't be kept is not let in by another group's access */
+        if (fchown(fd, former->st_uid, former->st_gid) != 0 && fchown(fd, (uid_t)-1, former->st_gid) != 0)
+            access &= 0707;
     }
-    access = former->st_mode & 0777;
-    /* a group that can't be kept is not let in by another group's access */
-    if (fchown(fd, former->st_uid, former->st_gid) != 0 && fchown(fd, (uid_t)-1, former->st_gid) != 0)
-        access &= 0707;
-    return fchmod(fd, access);
+    if (fchmod(fd, access) != 0)
+        return; /* a file system without access: nobody is let in who was not before */
 }
 
 static int fill(int fd, const struct stat *former, const uint8_t *bytes, size_t length)
 {
-    int good = write_all(fd, bytes, length) == 0 && set_access(fd, former) == 0 && fsync(fd) == 0;
-    int kept = errno;
+    int good = write_all(fd, bytes, length) == 0, kept;
+    if (good) {
+        set_access(fd, former);
+        good = fsync(fd) == 0;
+    }
+    kept = errno;
     if (close(fd) != 0 && good) {
         good = 0;
         kept = errno;
@@ -149,8 +164,11 @@ static int fill(int fd, const struct stat *former, const uint8_t *bytes, size_t 
 /* The name that a link leads to, so that the link stays. A former file that can't be written is not replaced either. */
 static int find_target(const char *name, int there, char target[PATH_MAX])
 {
-    if (there)
-        return faccessat(AT_FDCWD, name, W_OK, AT_EACCESS) == 0 && realpath(name, target) != NULL ? 0 : -1;
+    struct stat about;
+    if (there && faccessat(AT_FDCWD, name, W_OK, AT_EACCESS) != 0)
+        return -1;
+    if (lstat(name, &about) == 0 && S_ISLNK(about.st_mode))
+        return realpath(name, target) != NULL ? 0 : -1;
     if (strlen(name) >= PATH_MAX) {
         errno = ENAMETOOLONG;
         return -1;
@@ -186,7 +204,7 @@ enum stored store(const char *name, const uint8_t *bytes, size_t length)
 {
     static char target[PATH_MAX], folder[PATH_MAX];
     struct stat former;
-    int there = stat(name, &former) == 0, above, fd;
+    int there = stat(name, &former) == 0, above, fd, kept;
     if (find_target(name, there, target) != 0 || find_folder(target, folder) != 0)
         return UNSTORED;
     above = open(folder, O_RDONLY | O_DIRECTORY);
@@ -196,6 +214,8 @@ enum stored store(const char *name, const uint8_t *bytes, size_t length)
     fd = begin();
     if (fd >= 0 && finish(fill(fd, there ? &former : NULL, bytes, length), target))
         return sync_folder(above);
+    kept = errno;
     close(above);
+    errno = kept;
     return UNSTORED;
 }

@@ -87,7 +87,11 @@ static size_t character(const uint8_t *s)
     for (size_t i = 1; i < length; i++)
         if (s[i] < 0x80 || s[i] > 0xBF)
             return 0;
-    return s[0] == 0xC2 && s[1] < 0xA0 ? 0 : length;
+    /* control characters of two bytes; what is written longer than it need be, surrogates, and what lies beyond the last */
+    if ((s[0] == 0xC2 && s[1] < 0xA0) || (s[0] == 0xE0 && s[1] < 0xA0) || (s[0] == 0xED && s[1] > 0x9F) ||
+        (s[0] == 0xF0 && s[1] < 0x90) || (s[0] == 0xF4 && s[1] > 0x8F))
+        return 0;
+    return length;
 }
 
 void print_name(FILE *to, const char *name)
