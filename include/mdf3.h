@@ -143,7 +143,7 @@ uint32_t mdf3_check(const uint8_t *image, size_t image_len, uint8_t answer[MDF3_
  * Two images have equal copies, byte for byte, exactly when they say the
  * same, whatever their layout: so a copy that is there already shows a file
  * that came before. Groups, channels and records have the same numbers in the
- * copy as in the image, and the same samples.
+ * copy as in the image, and the same content; only places differ.
  *
  * In a copy every block has the size of its kind and stands where the rules'
  * section 4 says, so how many groups, channels and records there are, and the
