@@ -8,19 +8,25 @@
 #include <stdlib.h>
 #include <string.h>
 
-/* As few digits as tell it from every other; the bits of what is no number. */
-static void print_double(uint64_t bits)
+/* As few digits as tell a float from every other of its width, but not fewer than it always holds. */
+static void print_digits(double value, int single)
 {
     char text[40];
+    int digits = single ? 6 : 15;
+    do {
+        snprintf(text, sizeof text, "%.*g", digits, value);
+        digits++;
+    } while (digits <= (single ? 9 : 17) && (single ? (double)strtof(text, NULL) : strtod(text, NULL)) != value);
+    fputs(text, stdout);
+}
+
+/* A float, or the bits of what is no number. */
+static void print_double(uint64_t bits)
+{
     double value;
     memcpy(&value, &bits, 8);
-    for (int digits = 15; digits <= 17; digits++) {
-        snprintf(text, sizeof text, "%.*g", digits, value);
-        if (strtod(text, NULL) == value)
-            break;
-    }
     if (value == value)
-        printf("%s", text);
+        print_digits(value, 0);
     else
         printf("nan, bits %016" PRIx64, bits);
 }
@@ -28,16 +34,10 @@ static void print_double(uint64_t bits)
 static void print_single(uint64_t bits)
 {
     uint32_t low = (uint32_t)bits;
-    char text[40];
     float value;
     memcpy(&value, &low, 4);
-    for (int digits = 6; digits <= 9; digits++) {
-        snprintf(text, sizeof text, "%.*g", digits, (double)value);
-        if (strtof(text, NULL) == value)
-            break;
-    }
     if (value == value)
-        printf("%s", text);
+        print_digits((double)value, 1);
     else
         printf("nan, bits %08" PRIx32, low);
 }

@@ -1,6 +1,6 @@
 -- Laws of answers, of readings and of their canonical copies.
 -- Assumes nothing.
-pub use Rattle.spec.proofs.Answers.{step, pass, stop, fail, refuses, admits}
+pub use Rattle.spec.proofs.Answers.{step, pass, both, stop, fail, refuses, admits}
 pub use Rattle.spec.proofs.Places.{length-body}
 pub use Rattle.spec.proofs.Blocks.{length-cn, length-hd}
 pub use Rattle.spec.proofs.Channels.{length-channel, length-channels}

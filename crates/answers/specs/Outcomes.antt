@@ -1,5 +1,4 @@
 -- What the public calls give back.
 -- Assumes nothing.
-pub use Rattle.spec.specs.Walk.{most}
-pub use Rattle.spec.specs.Call.{Outcome, outcomeOf, CopyOutcome, copied, line, printed, checkOutcome}
+pub use Rattle.spec.specs.Call.{Outcome, outcomeOf, CopyOutcome, copied, line, checkOutcome}
 unfoldable pub use Rattle.spec.specs.Call.{copying, copyOutcome, programming, programOutcome, programOutput}

@@ -70,7 +70,7 @@ fn put_id_hd(out: &mut [u8], image: &[u8], f: File, front: Front, count: usize)
     ensures { λ _. ⌜ Wrote (now (out .entry)) (now (out .exit)) 0 (idHdBytes (imageReading (now (image .entry)))) ⌝ }
 {
     blocks::put_id(out, image);
-    let part = f.fields(image);
+    let carried = f.fields(image);
     let size = front.size;
     let comment = front.comment;
     let program = front.program;
@@ -81,8 +81,8 @@ fn put_id_hd(out: &mut [u8], image: &[u8], f: File, front: Front, count: usize)
         out,
         64,
         image,
-        part.from,
-        part.held,
+        carried.from,
+        carried.held,
         size,
         first,
         tx,

@@ -131,7 +131,7 @@ fn put_channel_block(
     requires { ⌜ AtChannel (now image) x × BodiesAre (now image) b (theChannel (now image) x) × PlacesAre at b p × (at + 228 ≤ length (now out)) ⌝ }
     ensures { λ _. ⌜ Wrote (now (out .entry)) (now (out .exit)) at (blockAs at next (theChannel (now (image .entry)) x)) ⌝ }
 {
-    let part = x.fields(image);
+    let carried = x.fields(image);
     let conversion = b.conversion;
     let extension = b.extension;
     let comment = b.comment;
@@ -146,8 +146,8 @@ fn put_channel_block(
         out,
         at,
         image,
-        part.from,
-        part.held,
+        carried.from,
+        carried.held,
         next,
         cc,
         ce,

@@ -9,7 +9,7 @@ use native.Mathlib.Omega.{arith}
 use lib.Dec.{leb, eqb, ltb}
 use lib.ListN.{length, take, length-append, length-map}
 use lib.Seq.{length-take-le}
-use borrow.Author.Tests.{leb-true, eq-eqb}
+use borrow.Author.Tests.{leb-true, eq-eqb, not-true}
 use Rattle.spec.specs.Bytes.{All, Bytes, join, field}
 use Rattle.spec.specs.Answer.{Answer, refused, accepted, mapAnswer}
 use Rattle.spec.specs.Block.{Image, imageOf, HD, CG, CN, CC, CE, TX, PR, HD-written, versionOf, Opened, HdBlock, readHd, CgBlock, readCg, Fields, channelType, dataType, bitsFit, CnBlock, readCn}
@@ -18,7 +18,7 @@ use Rattle.spec.specs.Records.{Slot, Logged, recordsOf}
 use Rattle.spec.specs.Found.{FoundBody, FoundChannel, FoundGroup, FoundDataGroup, FoundFile, slotOf, GroupIn, groupsIn, recordsIn, readBody, readChannel, readGroup, readingOf}
 use Rattle.spec.specs.Walk.{fieldsPass, formulaPasses, conversionAt, channelAt, channelList, elem, isEmpty, groupAllowed, idAllowed, groupList, channelCount, dataGroupList, fileFrom, identPasses, walk, reads}
 use Rattle.spec.specs.WellFormed.{BodyFits, NoLinks, FieldsFit, WellFormedChannel, WellFormedGroup, channelTotal, WellFormedIdent, WellFormed}
-use Rattle.spec.proofs.Answers.{Gives, gives, gives-none, bind, test, anything, both-give}
+use Rattle.spec.proofs.Answers.{both, Gives, gives, gives-none, bind, test, anything, both-give}
 use Rattle.spec.proofs.Opens.{OpenedBlock, open-gives, body-gives, length-field, bytes-take, bytes-join, bytes-field, u16-small, u32-small}
 use Rattle.spec.proofs.Logs.{Distinct, Kept, log-gives, all-records, log-bytes}
 
@@ -138,12 +138,7 @@ fresh-id mode n used = go (eqb mode 0) used
     go : (t : Bool) (used : List ℕ) → not t || isEmpty used ≡ true → t || leb n 255 && not (elem n used) ≡ true → elem n used ≡ false
     go true [] e f = refl
     go true (x ∷ xs) e f = absurd (true≢false (sym e))
-    go false us e f = go′ (leb n 255) (elem n us) f
-      where
-        go′ : (t u : Bool) → t && not u ≡ true → u ≡ false
-        go′ true true f = sym f
-        go′ true false f = refl
-        go′ false u f = absurd (true≢false (sym f))
+    go false us e f = not-true (elem n us) (both (leb n 255) _ f .1)
 
 first-one : (mode : ℕ) (used : List ℕ) → mode ≡ 0 → groupAllowed mode used ≡ true → length used ≡ 0
 first-one mode used z = go used (eqb mode 0) (eq-eqb mode 0 z)

@@ -2,13 +2,12 @@
 -- Assumes nothing.
 use Prim.Native.Nat.{ℕ}
 use mathlib.Core.Path.{_≡_, refl, sym, _∙_, ap}
-use mathlib.Core.Bool.{Bool, true, false, _&&_, true≢false}
-use mathlib.Core.List.{List, [], _∷_}
+use mathlib.Core.Bool.{Bool, true, _&&_}
+use mathlib.Core.List.{List, [], _∷_, _++_}
 use mathlib.Core.Option.{none, some}
 use native.Mathlib.Omega.{arith}
 use lib.Dec.{ltb}
 use lib.ListN.{length, take, drop}
-use lib.Seq.{take-at}
 use borrow.Author.Tests.{lt-leb, ltb-true}
 use Rattle.spec.specs.Bytes.{Bytes, field}
 use Rattle.spec.specs.Answer.{Answer, refused, accepted, _>>=_, require, mapAnswer, passed}
@@ -24,7 +23,7 @@ use Rattle.spec.specs.Call.{outcomeOf, checkOutcome, copying, copied, co
 use Rattle.spec.specs.Facts.{LongImageIsRefused, LongCopyIsRefused, IdentIsCarried, PartIsTheSample, ProgramWritesTheCopy, ProgramWritesTheRefusal, smallFile, SomethingIsCopied}
 use Rattle.spec.proofs.RoundTrip.{length-canonical}
 use Rattle.spec.proofs.Accepted.{accepted-well-formed}
-use Rattle.spec.proofs.Answers.{step, stop, fail, Gives, gives, bind, test, anything}
+use Rattle.spec.proofs.Answers.{step, stop, fail, both, Gives, gives, bind, test, anything}
 
 pub long-image-is-refused : LongImageIsRefused
 unfolding checkOutcome walk
@@ -80,27 +79,24 @@ program-reads a n =
 
 pub program-writes-the-copy : ProgramWritesTheCopy
 unfolding programOutcome programOutput
-program-writes-the-copy a out n bytes l e = go (programming a 32768) refl (rw l at e)
+program-writes-the-copy a out n bytes l e = rw l (go (programming a 32768) refl (rw l at e))
   where
-    go : (m : Answer Reading) → programming a 32768 ≡ m → copied (programming a 32768) out .given .value ≡ some n → printed (programming a 32768) ≡ take n (copied (programming a (length out)) out .memory)
-    go (refused k q) o e = let z : some n ≡ none = sym e ∙ ap (λ x. copied x out .given .value) o in absurd (omega (arith, none-some z))
-      where
-        none-some : {A : Type 0} {x : A} → some x ≡ none → _≡_ {A = ℕ} 0 1
-        none-some z = cc
+    same-some : {x y : ℕ} → some x ≡ some y → x ≡ y
+    same-some z = cc
+
+    go : (m : Answer Reading) → programming a 32768 ≡ m → copied m out .given .value ≡ some n → (copied m out .memory ≡ printed m ++ drop n out) × (n ≡ length (printed m))
+    go (refused k q) o e = let z : _≡_ {A = ℕ} 0 1 = cc in absurd (omega arith)
     go (accepted r) o e =
-        let i : copyLength r ≡ n = some-same (sym (ap (λ x. copied x out .given .value) o) ∙ e) in
+        let i = same-some e in
         let ok = accepted-well-formed a bytes r (program-reads a 32768 .given r o) in
-        rw (l, o) (sym (take-at (canonicalCopy r) (drop (copyLength r) out) n (length-canonical r ok ∙ i)))
-      where
-        some-same : {x y : ℕ} → some x ≡ some y → x ≡ y
-        some-same z = cc
+        (ap (λ k. canonicalCopy r ++ drop k out) i, sym (length-canonical r ok ∙ i))
 
 pub program-writes-the-refusal : ProgramWritesTheRefusal
 unfolding programOutcome programOutput
 program-writes-the-refusal a out l e = rw l (go (programming a 32768) (rw l at e))
   where
-    go : (m : Answer Reading) → copied m out .given .value ≡ none → printed m ≡ line (copied m out .given .number) (copied m out .given .place)
-    go (refused k q) e = refl
+    go : (m : Answer Reading) → copied m out .given .value ≡ none → (copied m out .memory ≡ out) × (printed m ≡ line (copied m out .given .number) (copied m out .given .place))
+    go (refused k q) e = (refl, refl)
     go (accepted r) e = let z : _≡_ {A = ℕ} 0 1 = cc in absurd (omega arith)
 
 -- ---- demand 3 speaks of something
@@ -115,10 +111,6 @@ all-bytes [] e = tt
 all-bytes (x ∷ xs) e =
     let b = both (ltb x 256) (allBytes xs) e in
     (ltb-true x 256 (b .0), all-bytes xs (b .1))
-  where
-    both : (t u : Bool) → t && u ≡ true → (t ≡ true) × (u ≡ true)
-    both true u e = (refl, e)
-    both false u e = absurd (true≢false (sym e))
 
 smallReading : Reading
 smallReading =

@@ -9,6 +9,7 @@ use lib.ListN.{length}
 use native.Mathlib.Omega.{arith}
 use borrow.Author.Tests.{le-leb, lt-leb, eq-eqb, ne-eqb, eqb-true, eqb-false}
 use Rattle.answers.specs.Samples.{Fields, Logged, bitOffset, bitCount, numberIn, pattern}
+use Rattle.answers.proofs.Laws.{both}
 use Rattle.bits.specs.Bits.{orderOf, bitsAt}
 use Rattle.reading.specs.declared.Signal.{Signal}
 use Rattle.stored.specs.Stored.{BitsInside, BitsOf}
@@ -44,12 +45,9 @@ module _ (image : List ℕ) (at : ℕ) (s : Signal) (f : Fields) (x : Logged) (h
 -- what it says where it passes
 module _ (s : Signal) (w : ℕ) (e : (eqb (s .bit) 0 && eqb (s .bits) w) ≡ true) where
   filled : (s .bit ≡ 0) × (s .bits ≡ w)
-  filled = go (eqb (s .bit) 0) (eqb (s .bits) w) refl refl e
-    where
-      go : (t u : Bool) → eqb (s .bit) 0 ≡ t → eqb (s .bits) w ≡ u → (t && u) ≡ true → (s .bit ≡ 0) × (s .bits ≡ w)
-      go true true x y e = (eqb-true (s .bit) 0 x, eqb-true (s .bits) w y)
-      go true false x y e = let z : _≡_ {A = ℕ} 0 1 = cc in absurd (omega arith)
-      go false u x y e = let z : _≡_ {A = ℕ} 0 1 = cc in absurd (omega arith)
+  filled =
+      let b = both (eqb (s .bit) 0) (eqb (s .bits) w) e in
+      (eqb-true (s .bit) 0 (b .0), eqb-true (s .bits) w (b .1))
 
   pub filled-width : s .bits ≡ w
   filled-width = filled .1
