@@ -11,7 +11,7 @@ use Rattle.spec.specs.Answer.{accepted}
 use Rattle.spec.specs.Block.{Image, CG, TX, opening, bodyAt, readCg}
 use Rattle.spec.specs.Found.{FoundGroup}
 use Rattle.spec.specs.Walk.{channelList, groupList, idAllowed}
-use Rattle.spec.proofs.Answers.{stop, Gives, gives, bind, test, anything}
+use Rattle.spec.proofs.Answers.{stop, Gives, gives, gives-none, bind, test, anything}
 use Rattle.image.specs.declared.Span.{Span}
 use Rattle.image.specs.declared.Block.the-variants.{Shut}
 use Rattle.image.specs.Spans.{blockOf, blockIn, openedAs}
@@ -69,3 +69,21 @@ module _ (image : Image) where
     unfolding groupList
     group-next zero cl b s e = absurd (not-both (rw (not-nil l h) at e) refl)
     group-next (suc left) cl b s e = list-gives left cl b s .given _ (rw (not-nil l h) at e)
+
+    some-gives : (left cl : ℕ) → Gives (groupList image left cl mode used field (some l)) (λ gs. (g : FoundGroup) × (more : List FoundGroup) × (gs ≡ g ∷ more))
+    unfolding groupList
+    some-gives zero cl = gives-none _ _
+    some-gives (suc left) cl =
+        bind _ (anything _) λ _ _.
+        bind _ (anything _) λ _ _.
+        bind _ (anything _) λ _ _.
+        bind _ (anything _) λ _ _.
+        bind _ (anything _) λ _ _.
+        bind _ (anything _) λ _ _.
+        bind _ (anything _) λ _ _.
+        bind _ (anything _) λ _ _.
+        gives _ (_, _, refl)
+
+    -- behind a link stands a group
+    pub some-group : (left cl : ℕ) {gs : List FoundGroup} → groupList image left cl mode used field (toLink l) ≡ accepted gs → (g : FoundGroup) × (more : List FoundGroup) × (gs ≡ g ∷ more)
+    some-group left cl e = some-gives left cl .given _ (rw (not-nil l h) at e)

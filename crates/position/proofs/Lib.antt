@@ -11,3 +11,4 @@ pub mod RecordCursors
 pub mod SizeTables
 pub mod Rows
 pub mod Asking
+pub mod Keys

@@ -19,12 +19,19 @@ use Rattle.blocks.proofs.Written.{dg-written, cg-written}
 use Rattle.write.specs.Write.{Wrote, then, wrote-as}
 use Rattle.reading.specs.declared.Body.{Body}
 use Rattle.reading.specs.declared.Group.{Group}
-use Rattle.reading.specs.Steps.{AtGroup, theGroup, BodyIs}
+use Rattle.write.specs.Progress.{Progress}
+use Rattle.write.specs.Progress as g
+use Rattle.reading.specs.declared.Groups.{Groups}
+use Rattle.reading.specs.declared.GroupStep.the-variants.{Next, Done}
+use Rattle.reading.specs.Promise.{logAt, dueOf}
+use Rattle.reading.specs.Steps.{AtGroup, AtKeys, KeyStep, GroupStepIs, groupsLeft, theGroup, BodyIs}
+use Rattle.put_records.specs.Owed.{paid, Areas, areas-more, owed-none, paid-nil, wrote-paid}
+use Rattle.put_records.specs.Dealing.{Turn}
 use Rattle.put_channels.specs.declared.Sum.{Sum}
 use Rattle.put_channels.specs.Written.{writtenBytes}
 use Rattle.put_channels.specs.Channels.{Capped, SumIs}
 use Rattle.put_channels.proofs.Written.{written-bytes}
-use Rattle.put_groups.specs.Groups.{linkIf, headsAs, groupAs, Known}
+use Rattle.put_groups.specs.Groups.{linkIf, headsAs, blocksAs, groupAs, Known}
 
 -- ---- lengths
 
@@ -70,7 +77,7 @@ link-if p (x ∷ xs) = refl
 
 -- the bytes of a group by the definition
 group-as : (at : ℕ) (next : Option ℕ) (g : ReadGroup) → groupBytes at next g ≡ groupAs at (target next) g
-unfolding groupBytes groupAs headsAs
+unfolding groupBytes groupAs blocksAs headsAs
 group-as at next g =
     let e : at + 28 + 30 ≡ at + 58 = omega arith in
     ap₂ (λ x y. x ++ (y ++ rest)) (dg-written (dgOf at next g) refl refl) (cg-written (length (g .channels)) (cgOf at g) refl refl refl)
@@ -107,23 +114,27 @@ pub known-of : (image : List ℕ) (g : Group) (text : Body) (sum : Sum) → AtGr
     → SumIs sum (channelsLength (theGroup image g .channels)) (length (theGroup image g .channels)) → groupLength (theGroup image g) ≤ 2147483647 → Known image g text sum
 known-of image g text sum s b m h = record { stands = s; comment = b; long = m .length .exact (omega arith); many = m .count (omega arith) }
 
-pub group-written : (image : List ℕ) (at next cn m : ℕ) (text : Body) (g : ReadGroup) → WellFormedGroup g → BodyIs image text (g .comment)
-    → cn ≡ at + 58 + bodyLength (g .comment) → m ≡ channelsLength (g .channels) → {o₀ o₁ o₂ o₃ o₄ : List ℕ}
-    → Wrote o₀ o₁ at (headsAs at next g)
-    → Wrote o₁ o₂ (at + 58) (writtenBytes 84 88 image text)
-    → Wrote o₂ o₃ cn (channelsBytes cn (g .channels))
-    → Wrote o₃ o₄ (cn + m) (join (g .records))
-    → Wrote o₀ o₄ at (groupAs at next g)
-unfolding groupAs
-group-written image at next cn m text g ok b e f w₁ w₂ w₃ w₄ =
-    let l₁ = heads-length at next g in
-    let l₂ = length-body TX (g .comment) in
-    let l₃ = length-channels (g .recordSize) (at + 58 + bodyLength (g .comment)) (g .channels) (ok .channels) in
-    then
-    (then
-    (then w₁ (wrote-as w₂ refl (written-bytes TX image text b)) (omega (arith, l₁)))
-    (wrote-as w₃ refl (ap (λ p. channelsBytes p (g .channels)) e)) (rw length-append (omega (arith, l₁, l₂, e))))
-    w₄ (rw (length-append, length-append) (omega (arith, l₁, l₂, l₃, e, f)))
+module _ (image : List ℕ) (at next cn m : ℕ) (text : Body) (g : ReadGroup) (ok : WellFormedGroup g) (b : BodyIs image text (g .comment)) (e : cn ≡ at + 58 + bodyLength (g .comment)) (f : m ≡ channelsLength (g .channels)) where
+  pub blocks-written : {o₀ o₁ o₂ o₃ : List ℕ}
+      → Wrote o₀ o₁ at (headsAs at next g)
+      → Wrote o₁ o₂ (at + 58) (writtenBytes 84 88 image text)
+      → Wrote o₂ o₃ cn (channelsBytes cn (g .channels))
+      → Wrote o₀ o₃ at (blocksAs at next g)
+  unfolding blocksAs
+  blocks-written w₁ w₂ w₃ =
+      let l₁ = heads-length at next g in
+      let l₂ = length-body TX (g .comment) in
+      then
+      (then w₁ (wrote-as w₂ refl (written-bytes TX image text b)) (omega (arith, l₁)))
+      (wrote-as w₃ refl (ap (λ p. channelsBytes p (g .channels)) e)) (rw length-append (omega (arith, l₁, l₂, e)))
+
+  pub blocks-end : cn + m ≡ at + length (blocksAs at next g)
+  unfolding blocksAs
+  blocks-end =
+      let l₁ = heads-length at next g in
+      let l₂ = length-body TX (g .comment) in
+      let l₃ = length-channels (g .recordSize) (at + 58 + bodyLength (g .comment)) (g .channels) (ok .channels) in
+      rw (length-append, length-append) (omega (arith, l₁, l₂, l₃, e, f))
 
 -- the first of a list of groups, and the rest behind it
 pub groups-cons : (p q : ℕ) (g : ReadGroup) (gs : List ReadGroup) → q ≡ p + groupLength g → groupsBytes p (g ∷ gs) ≡ groupAs p (target (linkToFirst q gs)) g ++ groupsBytes q gs
@@ -136,3 +147,53 @@ groups-nil p = refl
 
 pub group-long : (at : ℕ) (next : Option ℕ) (g : ReadGroup) → WellFormedGroup g → length (groupAs at (target next) g) ≡ groupLength g
 group-long at next g ok = ap length (sym (group-as at next g)) ∙ length-group at next g ok
+
+-- ---- a turn of the loop over the groups
+
+-- all before `to` is written, but for what is owed
+pub record Copying (image : List ℕ) (c₀ c : Groups) (at to : ℕ) (places out₀ out : List ℕ) : Type 0 where
+  pub keys : List ℕ
+  pub stands : AtKeys image c keys
+  pub areas : Areas places (dueOf (logAt image (c .index))) keys to
+  pub progress : Progress (groupsBytes at (groupsLeft image c₀)) out₀ (paid places (dueOf (logAt image (c .index))) keys out) at to (groupsBytes to (groupsLeft image c))
+
+pub copying-starts : {image : List ℕ} {c : Groups} {at : ℕ} {places out : List ℕ} → AtKeys image c [] → Copying image c c at at places out out
+copying-starts {image} {c} {at} {places} {out} t =
+    record { keys = []; stands = t; areas = owed-none places (dueOf (logAt image (c .index))) [] at; progress = rw (paid-nil places (dueOf (logAt image (c .index))) [] out) g.start }
+
+pub copying-ends : {image : List ℕ} {c₀ c : Groups} {at to : ℕ} {places out₀ out : List ℕ} → Copying image c₀ c at to places out₀ out → GroupStepIs image c Done → Wrote out₀ out at (groupsBytes at (groupsLeft image c₀))
+copying-ends {image} {c₀} {c} {at} {to} {places} {out₀} {out} f e =
+    let k = e .1 (f .keys) (f .stands) in
+    let p = rw (k, paid-nil places (dueOf (logAt image (c .index))) [] out) at (f .progress) in
+    g.finish p (ap (groupsBytes to) (e .0) ∙ groups-nil to) .0
+
+module _ (image : List ℕ) (c₀ c : Groups) (x : Group) (n : Groups) (w : GroupStepIs image c (Next x n)) (ok : WellFormedGroup (theGroup image x)) (at to q end : ℕ) (places out₀ out out₁ : List ℕ) (f : Copying image c₀ c at to places out₀ out) (e : end ≡ to + groupLength (theGroup image x))
+    (b : Wrote out out₁ to (blocksAs to (target (linkToFirst end (groupsLeft image n))) (theGroup image x))) (l : q ≡ to + length (blocksAs to (target (linkToFirst end (groupsLeft image n))) (theGroup image x))) where
+  -- where its records end
+  pub records-end : q + length (join (theGroup image x .records)) ≡ end
+  unfolding groupAs
+  records-end = omega (arith, l, e, simp length-append at (group-long to (linkToFirst end (groupsLeft image n)) (theGroup image x) ok))
+
+  areas-here : Areas places (dueOf (logAt image (x .index))) (f .keys) q
+  areas-here = rw (w .2) (areas-more places (dueOf (logAt image (c .index))) (f .keys) to q (f .areas) (omega (arith, l)))
+
+  pub copying-keys : (keys : List ℕ) × KeyStep image keys x n × Areas places (dueOf (logAt image (x .index))) keys q
+  copying-keys = (f .keys, w .5 (f .keys) (f .stands), areas-here)
+
+  pub copying-turn : {places′ out₂ : List ℕ} → ((keys : List ℕ) → KeyStep image keys x n → Areas places (dueOf (logAt image (x .index))) keys q → Turn image x n places out₁ places′ out₂ q keys) → Copying image c₀ n at end places′ out₀ out₂
+  unfolding groupAs
+  copying-turn {places′} {out₂} t =
+      let u = t (f .keys) (w .5 (f .keys) (f .stands)) areas-here in
+      let h = rw (← w .2) at (w .3) in
+      let p = rw (← w .2) at (f .progress) in
+      let a = rw (← w .2) at (f .areas) in
+      let wrote = then (wrote-paid places (dueOf (logAt image (x .index))) (f .keys) to a (omega arith) b) (u .wrote) l in
+      record {
+        keys = u .keys′;
+        stands = u .stands;
+        areas = areas-more places′ (dueOf (logAt image (n .index))) (u .keys′) _ end (u .areas) (omega (arith, records-end));
+        progress =
+            g.step (groupAs to (target (linkToFirst end (groupsLeft image n))) (theGroup image x)) end p
+            (ap (groupsBytes to) h ∙ groups-cons to end (theGroup image x) (groupsLeft image n) e) wrote
+            (e ∙ sym (ap (λ k. to + k) (group-long to (linkToFirst end (groupsLeft image n)) (theGroup image x) ok)));
+      }

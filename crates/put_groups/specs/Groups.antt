@@ -24,9 +24,13 @@ headsAs at next g =
     dgBytes next (at + 28) (target (linkToFirst (at + 58 + bodyLength (g .comment) + channelsLength (g .channels)) (g .records)))
     ++ cgBytes (target (linkToFirst (at + 58 + bodyLength (g .comment)) (g .channels))) (target (linkTo (at + 58) (g .comment))) (length (g .channels)) (g .recordSize) (length (g .records))
 
+-- all of a group but its records
+unfoldable pub blocksAs : ℕ → ℕ → ReadGroup → List ℕ
+blocksAs at next g =
+    (headsAs at next g ++ bodyBytes TX (g .comment)) ++ channelsBytes (at + 58 + bodyLength (g .comment)) (g .channels)
+
 unfoldable pub groupAs : ℕ → ℕ → ReadGroup → List ℕ
-groupAs at next g =
-    ((headsAs at next g ++ bodyBytes TX (g .comment)) ++ channelsBytes (at + 58 + bodyLength (g .comment)) (g .channels)) ++ join (g .records)
+groupAs at next g = blocksAs at next g ++ join (g .records)
 
 -- what is known of a group before it is written
 pub record Known (image : List ℕ) (g : Group) (text : Body) (sum : Sum) : Type 0 where

@@ -5,14 +5,15 @@ use reading::Group;
 use reading::GroupStep;
 use reading::Groups;
 ghost use mathlib.Core.Path.{_≡_};
+ghost use mathlib.Core.List.{[]};
 ghost use Prim.Native.Nat.{_+_, _≤_, _<_};
 ghost use lib.ListN.{length};
 ghost use Rattle.write.specs.Write.{Wrote};
 ghost use Rattle.answers.specs.Readings.{target};
 ghost use Rattle.answers.specs.Copies.{linkToFirst, groupLength, groupsLength, groupsBytes};
-ghost use Rattle.reading.specs.Steps.{AtGroups, AtGroup, groupsLeft, theGroup};
+ghost use Rattle.reading.specs.Steps.{AtGroups, AtGroup, AtKeys, groupsLeft, theGroup};
 ghost use Rattle.put_channels.specs.Channels.{Capped, SumIs};
-ghost use Rattle.put_groups.specs.Groups.{linkIf, headsAs, groupAs, Known};
+ghost use Rattle.put_groups.specs.Groups.{linkIf, headsAs, blocksAs, Known};
 
 // ---- a group
 
@@ -63,10 +64,10 @@ fn put_heads(
     blocks::put_cg(out, at + 28, first, text, channels, g.size(image), count);
 }
 
-// A group with all that it holds, and the link to the next one.
-fn put_group(out: &mut [u8], at: usize, image: &[u8], g: Group, next: usize)
+// A group with all that it holds but its records, and the link to the next one; and where its records are to stand.
+fn put_blocks(out: &mut [u8], at: usize, image: &[u8], g: Group, next: usize) -> usize
     requires { ⌜ AtGroup (now image) g × (groupLength (theGroup (now image) g) ≤ 2147483647) × (at + groupLength (theGroup (now image) g) ≤ length (now out)) ⌝ }
-    ensures { λ _. ⌜ Wrote (now (out .entry)) (now (out .exit)) at (groupAs at next (theGroup (now (image .entry)) g)) ⌝ }
+    ensures { λ r. ⌜ Wrote (now (out .entry)) (now (out .exit)) at (blocksAs at next (theGroup (now (image .entry)) g)) × (r ≡ at + length (blocksAs at next (theGroup (now (image .entry)) g))) ⌝ }
 {
     let comment = g.comment(image);
     let sum = put_channels::channels_sum(image, g.channels(image));
@@ -75,7 +76,7 @@ fn put_group(out: &mut [u8], at: usize, image: &[u8], g: Group, next: usize)
     put_channels::put_body(out, tx, image, comment, blocks::TX);
     let cn = tx + put_channels::body_length(comment);
     put_channels::put_channels(out, cn, image, g.channels(image));
-    put_records::put_records(out, cn + sum.length, image, g);
+    cn + sum.length
 }
 
 // ---- the groups
@@ -114,11 +115,13 @@ fn groups_link(image: &[u8], groups: Groups, at: usize) -> usize
 
 // The groups that are left, from a place on.
 pub fn put_groups(out: &mut [u8], at: usize, image: &[u8], groups: Groups)
-    requires { ⌜ AtGroups (now image) groups × (groupsLength (groupsLeft (now image) groups) ≤ 2147483647) × (at + groupsLength (groupsLeft (now image) groups) ≤ length (now out)) ⌝ }
+    requires { ⌜ AtGroups (now image) groups × AtKeys (now image) groups [] × (groupsLength (groupsLeft (now image) groups) ≤ 2147483647) × (at + groupsLength (groupsLeft (now image) groups) ≤ length (now out)) ⌝ }
     ensures { λ _. ⌜ Wrote (now (out .entry)) (now (out .exit)) at (groupsBytes at (groupsLeft (now (image .entry)) groups)) ⌝ }
 {
     let mut c = groups;
     let mut to = at;
+    // where the records that wait stand, by key
+    let mut places = [0usize; 256];
     loop {
         match c.next(image) {
             GroupStep::Done => {
@@ -127,7 +130,8 @@ pub fn put_groups(out: &mut [u8], at: usize, image: &[u8], groups: Groups)
             GroupStep::Next(g, n) => {
                 let end = to + group_length(image, g);
                 let next = groups_link(image, n, end);
-                put_group(out, to, image, g, next);
+                let records = put_blocks(out, to, image, g, next);
+                put_records::put_records(out, records, image, g, n, &mut places);
                 to = end;
                 c = n;
             }

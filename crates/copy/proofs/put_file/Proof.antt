@@ -45,7 +45,7 @@ put-groups-requires c κs =
     let s = c .before .before .before .before .before .before .before .before .before .before .before .before .before .before .front-of .ensures in
     let b = length-by (imageReading (a .image .now)) _ (s .first) in
     let g = c .groups .ensures in
-    (g .0, omega (arith, b, ap groupsLength (g .1), c .before .before .before .before .before .before .before .before .before .before .before .before .before .before .before .before .before .pre .2), omega (arith, b, ap groupsLength (g .1), c .before .before .before .before .before .before .before .before .before .before .before .before .before .before .before .before .before .pre .3, c .before .before .before .before .before .before .before .before .before .before .before .before .put-id-hd .kept .0, c .before .before .before .before .before .before .before .before .put-body .kept .0, c .before .before .before .before .put-body2 .kept .0))
+    (g .0, g .3, omega (arith, b, ap groupsLength (g .1), c .before .before .before .before .before .before .before .before .before .before .before .before .before .before .before .before .before .pre .2), omega (arith, b, ap groupsLength (g .1), c .before .before .before .before .before .before .before .before .before .before .before .before .before .before .before .before .before .pre .3, c .before .before .before .before .before .before .before .before .before .before .before .before .put-id-hd .kept .0, c .before .before .before .before .before .before .before .before .put-body .kept .0, c .before .before .before .before .put-body2 .kept .0))
 
 same-length : tie.Need-same-length
 same-length c = search needs

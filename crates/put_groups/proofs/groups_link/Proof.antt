@@ -17,7 +17,7 @@ enum-known--g c = search needs
 returns : tie.Need-returns
 returns c =
     let e = rw (c .enum-told .given .1) at (c .before .before .next .ensures) in
-    sym (ap (λ xs. target (linkToFirst (c .before .before .before .before .args .at) xs)) e)
+    sym (ap (λ xs. target (linkToFirst (c .before .before .before .before .args .at) xs)) (e .0))
 
 returns-2 : tie.Need-returns-2
 returns-2 c =

@@ -29,7 +29,7 @@ returns : tie.Need-returns Inv-loop μ-loop
 returns c =
     let l = c .before .before .before .loop in
     let e = rw (c .enum-told .given .1) at (c .before .before .next .ensures) in
-    sum-done _ _ _ _ (l .inv .1) (omega (arith, l .inv .3, ap groupsLength e)) (omega (arith, l .inv .4, ap length e))
+    sum-done _ _ _ _ (l .inv .1) (omega (arith, l .inv .3, ap groupsLength (e .0))) (omega (arith, l .inv .4, ap length (e .0)))
 
 enum-known-g : tie.Need-enum-known-g Inv-loop μ-loop
 enum-known-g c = search needs
