@@ -171,24 +171,31 @@ static void all(const struct shape *shapes, size_t count, int turns)
 int main(void)
 {
     static const struct shape main_shapes[] = {
-        {"64 MB sorted", 64u << 20, 0, 1, 4, 16, 16, 1},
-        {"64 MB unsorted, 8 groups", 64u << 20, 1, 8, 4, 8, 64, 1},
-        {"64 MB unsorted, 40 groups", 64u << 20, 1, 40, 4, 8, 64, 1},
-        {"16,000 channels", 4u << 20, 0, 1, 16000, 64, 64, 1},
-        {"2,000 files of 30 KB", 30u << 10, 1, 3, 4, 8, 20, 2000},
+        {"64 MB sorted", 64u << 20, 0, 1, 4, 16, 16, 1, 0},
+        {"64 MB unsorted, 8 groups", 64u << 20, 1, 8, 4, 8, 64, 1, 0},
+        {"64 MB unsorted, 40 groups", 64u << 20, 1, 40, 4, 8, 64, 1, 0},
+        {"16,000 channels", 4u << 20, 0, 1, 16000, 64, 64, 1, 0},
+        {"2,000 files of 30 KB", 30u << 10, 1, 3, 4, 8, 20, 2000, 0},
     };
     static const struct shape records[] = {
-        {"4 MB unsorted, 8 groups", 4u << 20, 1, 8, 4, 8, 64, 1},
-        {"16 MB unsorted, 8 groups", 16u << 20, 1, 8, 4, 8, 64, 1},
+        {"4 MB unsorted, 8 groups", 4u << 20, 1, 8, 4, 8, 64, 1, 0},
+        {"4 MB unsorted, 40 groups", 4u << 20, 1, 40, 4, 8, 64, 1, 0},
+        {"16 MB unsorted, 8 groups, mode 2", 16u << 20, 2, 8, 4, 8, 64, 1, 0},
     };
     static const struct shape groups[] = {
-        {"16 MB unsorted, 1 group", 16u << 20, 1, 1, 4, 36, 36, 1},
-        {"16 MB unsorted, 40 groups", 16u << 20, 1, 40, 4, 8, 64, 1},
-        {"16 MB unsorted, 160 groups", 16u << 20, 1, 160, 4, 8, 64, 1},
+        {"16 MB unsorted, 1 group", 16u << 20, 1, 1, 4, 36, 36, 1, 0},
+        {"16 MB unsorted, 8 groups", 16u << 20, 1, 8, 4, 8, 64, 1, 0},
+        {"16 MB unsorted, 8 groups, random order", 16u << 20, 1, 8, 4, 8, 64, 1, 1},
+        {"16 MB unsorted, 40 groups", 16u << 20, 1, 40, 4, 8, 64, 1, 0},
+        {"16 MB unsorted, 40 groups, random order", 16u << 20, 1, 40, 4, 8, 64, 1, 1},
+        {"16 MB unsorted, 160 groups", 16u << 20, 1, 160, 4, 8, 64, 1, 0},
+        {"16 MB unsorted, 160 groups, random order", 16u << 20, 1, 160, 4, 8, 64, 1, 1},
+        {"16 MB unsorted, 256 groups", 16u << 20, 1, 256, 4, 8, 64, 1, 0},
+        {"16 MB unsorted, 256 groups, random order", 16u << 20, 1, 256, 4, 8, 64, 1, 1},
     };
     static const struct shape channels[] = {
-        {"1,000 channels", 1u << 20, 0, 1, 1000, 64, 64, 1},
-        {"4,000 channels", 1u << 20, 0, 1, 4000, 64, 64, 1},
+        {"1,000 channels", 1u << 20, 0, 1, 1000, 64, 64, 1, 0},
+        {"4,000 channels", 1u << 20, 0, 1, 4000, 64, 64, 1, 0},
     };
     printf("| file | call | time | to memcpy | to a plain read | to plain C | to the second program |\n|---|---|---|---|---|---|---|\n");
     all(main_shapes, sizeof main_shapes / sizeof main_shapes[0], 9);

@@ -30,7 +30,7 @@ static size_t group(uint8_t *image, size_t *end, size_t link, const struct shape
 {
     size_t cg = block(image, end, "CG", 30);
     put(image, link, cg, 4);
-    put(image, cg + 16, g + 1, 2);
+    put(image, cg + 16, g, 2);
     put(image, cg + 20, size_of(s, g), 2);
     link = cg + 8;
     for (unsigned n = 0; n < s->channels; n++) {
@@ -43,18 +43,28 @@ static size_t group(uint8_t *image, size_t *end, size_t link, const struct shape
     return cg;
 }
 
-/* Records of all groups in turn, as long as there is room. */
+/* The group of the next record: in turn, or at random by the high bits of a multiplication. */
+static unsigned next_group(const struct shape *s, unsigned g, uint64_t *chance)
+{
+    if (!s->mixed)
+        return (g + 1) % s->groups;
+    *chance = *chance * 6364136223846793005u + 1442695040888963407u;
+    return (unsigned)((*chance >> 33) % s->groups);
+}
+
+/* Records of all groups, as long as there is room. */
 static void records(uint8_t *image, size_t *end, const struct shape *s, const size_t *cg)
 {
     uint32_t counts[256] = {0};
-    for (unsigned g = 0; s->room - *end >= size_of(s, g) + s->mode; g = (g + 1) % s->groups) {
+    uint64_t chance = 1;
+    for (unsigned g = 0; s->room - *end >= size_of(s, g) + s->mode; g = next_group(s, g, &chance)) {
         unsigned size = size_of(s, g);
         if (s->mode > 0)
-            image[*end] = (uint8_t)(g + 1);
+            image[*end] = (uint8_t)g;
         /* records that differ, so that one in a wrong place shows */
         put(image, *end + (s->mode > 0), *end * 2654435761u, 8);
         if (s->mode > 1)
-            image[*end + 1 + size] = (uint8_t)(g + 1);
+            image[*end + 1 + size] = (uint8_t)g;
         *end += size + s->mode;
         counts[g]++;
     }

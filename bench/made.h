@@ -13,9 +13,10 @@ struct shape {
     unsigned channels; /* of each group */
     unsigned least, most;
     unsigned files; /* so many of them, one after the other */
+    int mixed;      /* the records of all groups come in random order, else in turn */
 };
 
-/* Makes a file; its length. The data are filled up with records of all groups in turn. */
+/* Makes a file; its length. The data are filled up with records of all groups, the same at every call. */
 size_t made(uint8_t *image, const struct shape *s);
 
 /* Seconds. */

@@ -25,8 +25,9 @@ use Rattle.reading.specs.declared.Groups.{Groups}
 use Rattle.reading.specs.declared.GroupStep.the-variants.{Next, Done}
 use Rattle.reading.specs.Promise.{logAt, dueOf}
 use Rattle.reading.specs.Steps.{AtGroup, AtKeys, KeyStep, GroupStepIs, groupsLeft, theGroup, BodyIs}
-use Rattle.put_records.specs.Owed.{paid, Areas, areas-more, owed-none, paid-nil, wrote-paid}
+use Rattle.put_records.specs.Owed.{paid, Areas}
 use Rattle.put_records.specs.Dealing.{Turn}
+use Rattle.put_records.proofs.Owed.{areas-more, owed-none, paid-nil, wrote-paid}
 use Rattle.put_channels.specs.declared.Sum.{Sum}
 use Rattle.put_channels.specs.Written.{writtenBytes}
 use Rattle.put_channels.specs.Channels.{Capped, SumIs}
@@ -159,12 +160,12 @@ pub record Copying (image : List ℕ) (c₀ c : Groups) (at to : ℕ) (places ou
 
 pub copying-starts : {image : List ℕ} {c : Groups} {at : ℕ} {places out : List ℕ} → AtKeys image c [] → Copying image c c at at places out out
 copying-starts {image} {c} {at} {places} {out} t =
-    record { keys = []; stands = t; areas = owed-none places (dueOf (logAt image (c .index))) [] at; progress = rw (paid-nil places (dueOf (logAt image (c .index))) [] out) g.start }
+    record { keys = []; stands = t; areas = owed-none places (dueOf (logAt image (c .index))) at; progress = rw (paid-nil places (dueOf (logAt image (c .index))) out) g.start }
 
 pub copying-ends : {image : List ℕ} {c₀ c : Groups} {at to : ℕ} {places out₀ out : List ℕ} → Copying image c₀ c at to places out₀ out → GroupStepIs image c Done → Wrote out₀ out at (groupsBytes at (groupsLeft image c₀))
 copying-ends {image} {c₀} {c} {at} {to} {places} {out₀} {out} f e =
     let k = e .1 (f .keys) (f .stands) in
-    let p = rw (k, paid-nil places (dueOf (logAt image (c .index))) [] out) at (f .progress) in
+    let p = rw (k, paid-nil places (dueOf (logAt image (c .index))) out) at (f .progress) in
     g.finish p (ap (groupsBytes to) (e .0) ∙ groups-nil to) .0
 
 module _ (image : List ℕ) (c₀ c : Groups) (x : Group) (n : Groups) (w : GroupStepIs image c (Next x n)) (ok : WellFormedGroup (theGroup image x)) (at to q end : ℕ) (places out₀ out out₁ : List ℕ) (f : Copying image c₀ c at to places out₀ out) (e : end ≡ to + groupLength (theGroup image x))
