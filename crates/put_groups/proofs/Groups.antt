@@ -20,7 +20,7 @@ use Rattle.write.specs.Write.{Wrote, then, wrote-as}
 use Rattle.reading.specs.declared.Body.{Body}
 use Rattle.reading.specs.declared.Group.{Group}
 use Rattle.write.specs.Progress.{Progress}
-use Rattle.write.specs.Progress as g
+use Rattle.write.specs.Progress as writing
 use Rattle.reading.specs.declared.Groups.{Groups}
 use Rattle.reading.specs.declared.GroupStep.the-variants.{Next, Done}
 use Rattle.reading.specs.Promise.{logAt, dueOf}
@@ -138,15 +138,15 @@ module _ (image : List ℕ) (at next cn m : ℕ) (text : Body) (g : ReadGroup) (
       rw (length-append, length-append) (omega (arith, l₁, l₂, l₃, e, f))
 
 -- the first of a list of groups, and the rest behind it
-pub groups-cons : (p q : ℕ) (g : ReadGroup) (gs : List ReadGroup) → q ≡ p + groupLength g → groupsBytes p (g ∷ gs) ≡ groupAs p (target (linkToFirst q gs)) g ++ groupsBytes q gs
+groups-cons : (p q : ℕ) (g : ReadGroup) (gs : List ReadGroup) → q ≡ p + groupLength g → groupsBytes p (g ∷ gs) ≡ groupAs p (target (linkToFirst q gs)) g ++ groupsBytes q gs
 unfolding groupsBytes
 groups-cons p q g gs e = rw e (ap (λ xs. xs ++ groupsBytes (p + groupLength g) gs) (group-as p (linkToFirst (p + groupLength g) gs) g))
 
-pub groups-nil : (p : ℕ) → groupsBytes p [] ≡ []
+groups-nil : (p : ℕ) → groupsBytes p [] ≡ []
 unfolding groupsBytes
 groups-nil p = refl
 
-pub group-long : (at : ℕ) (next : Option ℕ) (g : ReadGroup) → WellFormedGroup g → length (groupAs at (target next) g) ≡ groupLength g
+group-long : (at : ℕ) (next : Option ℕ) (g : ReadGroup) → WellFormedGroup g → length (groupAs at (target next) g) ≡ groupLength g
 group-long at next g ok = ap length (sym (group-as at next g)) ∙ length-group at next g ok
 
 -- ---- a turn of the loop over the groups
@@ -160,13 +160,13 @@ pub record Copying (image : List ℕ) (c₀ c : Groups) (at to : ℕ) (places ou
 
 pub copying-starts : {image : List ℕ} {c : Groups} {at : ℕ} {places out : List ℕ} → AtKeys image c [] → Copying image c c at at places out out
 copying-starts {image} {c} {at} {places} {out} t =
-    record { keys = []; stands = t; areas = owed-none places (dueOf (logAt image (c .index))) at; progress = rw (paid-nil places (dueOf (logAt image (c .index))) out) g.start }
+    record { keys = []; stands = t; areas = owed-none places (dueOf (logAt image (c .index))) at; progress = rw (paid-nil places (dueOf (logAt image (c .index))) out) writing.start }
 
 pub copying-ends : {image : List ℕ} {c₀ c : Groups} {at to : ℕ} {places out₀ out : List ℕ} → Copying image c₀ c at to places out₀ out → GroupStepIs image c Done → Wrote out₀ out at (groupsBytes at (groupsLeft image c₀))
 copying-ends {image} {c₀} {c} {at} {to} {places} {out₀} {out} f e =
     let k = e .1 (f .keys) (f .stands) in
     let p = rw (k, paid-nil places (dueOf (logAt image (c .index))) out) at (f .progress) in
-    g.finish p (ap (groupsBytes to) (e .0) ∙ groups-nil to) .0
+    writing.finish p (ap (groupsBytes to) (e .0) ∙ groups-nil to) .0
 
 module _ (image : List ℕ) (c₀ c : Groups) (x : Group) (n : Groups) (w : GroupStepIs image c (Next x n)) (ok : WellFormedGroup (theGroup image x)) (at to q end : ℕ) (places out₀ out out₁ : List ℕ) (f : Copying image c₀ c at to places out₀ out) (e : end ≡ to + groupLength (theGroup image x))
     (b : Wrote out out₁ to (blocksAs to (target (linkToFirst end (groupsLeft image n))) (theGroup image x))) (l : q ≡ to + length (blocksAs to (target (linkToFirst end (groupsLeft image n))) (theGroup image x))) where
@@ -194,7 +194,7 @@ module _ (image : List ℕ) (c₀ c : Groups) (x : Group) (n : Groups) (w : Grou
         stands = u .stands;
         areas = areas-more places′ (dueOf (logAt image (n .index))) (u .keys′) _ end (u .areas) (omega (arith, records-end));
         progress =
-            g.step (groupAs to (target (linkToFirst end (groupsLeft image n))) (theGroup image x)) end p
+            writing.step (groupAs to (target (linkToFirst end (groupsLeft image n))) (theGroup image x)) end p
             (ap (groupsBytes to) h ∙ groups-cons to end (theGroup image x) (groupsLeft image n) e) wrote
             (e ∙ sym (ap (λ k. to + k) (group-long to (linkToFirst end (groupsLeft image n)) (theGroup image x) ok)));
       }

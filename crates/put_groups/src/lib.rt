@@ -6,7 +6,7 @@ use reading::GroupStep;
 use reading::Groups;
 ghost use mathlib.Core.Path.{_≡_};
 ghost use mathlib.Core.List.{[]};
-ghost use Prim.Native.Nat.{_+_, _≤_, _<_};
+ghost use Prim.Native.Nat.{_+_, _≤_};
 ghost use lib.ListN.{length};
 ghost use Rattle.write.specs.Write.{Wrote};
 ghost use Rattle.answers.specs.Readings.{target};
@@ -120,7 +120,7 @@ pub fn put_groups(out: &mut [u8], at: usize, image: &[u8], groups: Groups)
 {
     let mut c = groups;
     let mut to = at;
-    // where the records that wait stand, by key
+    // where the records that are owed go, by key
     let mut places = [0usize; 256];
     loop {
         match c.next(image) {
