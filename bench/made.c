@@ -43,21 +43,21 @@ static size_t group(uint8_t *image, size_t *end, size_t link, const struct shape
     return cg;
 }
 
-/* The group of the next record: in turn, or at random by the high bits of a multiplication. */
-static unsigned next_group(const struct shape *s, unsigned g, uint64_t *chance)
+/* The group of the next record: in turn, or by a linear congruential generator. */
+static unsigned next_group(const struct shape *s, unsigned g, uint64_t *state)
 {
-    if (!s->mixed)
+    if (!s->random)
         return (g + 1) % s->groups;
-    *chance = *chance * 6364136223846793005u + 1442695040888963407u;
-    return (unsigned)((*chance >> 33) % s->groups);
+    *state = *state * 6364136223846793005u + 1442695040888963407u;
+    return (unsigned)((*state >> 33) % s->groups);
 }
 
 /* Records of all groups, as long as there is room. */
 static void records(uint8_t *image, size_t *end, const struct shape *s, const size_t *cg)
 {
     uint32_t counts[256] = {0};
-    uint64_t chance = 1;
-    for (unsigned g = 0; s->room - *end >= size_of(s, g) + s->mode; g = next_group(s, g, &chance)) {
+    uint64_t state = 1;
+    for (unsigned g = 0; s->room - *end >= size_of(s, g) + s->mode; g = next_group(s, g, &state)) {
         unsigned size = size_of(s, g);
         if (s->mode > 0)
             image[*end] = (uint8_t)g;

@@ -13,7 +13,7 @@ struct shape {
     unsigned channels; /* of each group */
     unsigned least, most;
     unsigned files; /* so many of them, one after the other */
-    int mixed;      /* the records of all groups come in random order, else in turn */
+    int random;     /* the records of all groups come in random order, else in turn */
 };
 
 /* Makes a file; its length. The data are filled up with records of all groups, the same at every call. */
