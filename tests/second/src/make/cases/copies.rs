@@ -14,6 +14,8 @@ pub fn cases(book: &mut Book) {
     empty_data_groups(book);
     without_records(book);
     interleaved(book);
+    all_ids(book);
+    data_groups_in_a_row(book);
 }
 
 /// A copy in the making: the last data group, channel group and link field
@@ -378,5 +380,83 @@ fn interleaved(book: &mut Book) {
             let name = format!("mode {mode}, five groups in order {n}, copied");
             book.copied(name, &file.sheet.bytes, &copy.sheet.bytes);
         }
+    }
+}
+
+/// All 256 IDs in one data group, in an order of their own; every third group
+/// has no records. Those of others come forwards, then backwards.
+fn all_ids(book: &mut Book) {
+    let groups: Vec<(u16, u16, u32)> =
+        (0..256).map(|n| (n * 167 % 256, n % 5 + 1, u32::from(n) % 3)).collect();
+    for mode in [1u16, 2] {
+        let mut data = Vec::new();
+        let mut kept = vec![Vec::new(); 256];
+        for turn in 0..512u32 {
+            let round = turn / 256;
+            let group = (if round == 0 { turn } else { 511 - turn }) as usize;
+            let (id, size, count) = groups[group];
+            if round < count {
+                let record = vec![(turn * 31) as u8; size.into()];
+                data.push(id as u8);
+                data.extend(&record);
+                data.extend((mode == 2).then_some(id as u8));
+                kept[group].extend(record);
+            }
+        }
+        let mut copy = Laid::new(300);
+        for (&(_, size, count), records) in groups.iter().zip(&kept) {
+            copy.group(size);
+            if count > 0 {
+                copy.records(count, records);
+            }
+        }
+        let file = logged(mode, &groups, &data);
+        book.copied(format!("mode {mode}, all IDs, copied"), &file.sheet.bytes, &copy.sheet.bytes);
+    }
+}
+
+/// Data groups with the same IDs, exchanged in every second one, sorted and
+/// empty ones among them: each has its own records.
+fn data_groups_in_a_row(book: &mut Book) {
+    // One letter for each data group: its mode, or empty.
+    for pattern in ["11", "12", "22", "101", "1e1", "2e02", "2112", "e1ee2"] {
+        let mut image = Sheet::new(300, 164);
+        let mut copy = Laid::new(300);
+        let mut field = 68;
+        for (n, letter) in pattern.chars().enumerate() {
+            let dg = image.linked(field, b"DG", 24);
+            field = dg + 4;
+            let mode = match letter.to_digit(10) {
+                Some(mode) => mode as u16,
+                None => continue,
+            };
+            image.put16(dg + 22, mode);
+            let sizes: &[u16] = if mode == 0 { &[3] } else { &[3, 2] };
+            let id = |group: usize| ((group + n) % 2 + 1) as u8;
+            let mut data = Vec::new();
+            let mut kept = vec![Vec::new(); sizes.len()];
+            for turn in 0..3 * sizes.len() {
+                let group = turn % sizes.len();
+                let record = vec![(16 * n + turn) as u8; sizes[group].into()];
+                data.extend((mode > 0).then_some(id(group)));
+                data.extend(&record);
+                data.extend((mode == 2).then_some(id(group)));
+                kept[group].extend(record);
+            }
+            let mut link = dg + 8;
+            for (group, &size) in sizes.iter().enumerate() {
+                let cg = image.linked(link, b"CG", 26);
+                image.put16(cg + 16, id(group).into());
+                image.put16(cg + 20, size);
+                image.put32(cg + 22, 3);
+                link = cg + 4;
+                copy.group(size);
+                copy.records(3, &kept[group]);
+            }
+            let place = image.append(&data);
+            image.put32(dg + 16, place as u32);
+        }
+        let name = format!("data groups of modes {pattern}, copied");
+        book.copied(name, &image.bytes, &copy.sheet.bytes);
     }
 }
