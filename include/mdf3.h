@@ -33,8 +33,11 @@
 
 #include <stddef.h>
 #include <stdint.h>
+#include <string.h>
 
-#define MDF3_VERSION "1.0.0"
+#define MDF3_VERSION "1.1.0"
+/* The same for #if: 10,000 for each major, 100 for each minor number. */
+#define MDF3_VERSION_NUMBER 10100
 
 #ifdef __cplusplus
 extern "C" {
@@ -102,10 +105,10 @@ extern "C" {
  * end of the group's records. */
 #define MDF3_NO_SUCH 14
 /* The sample cannot be read: the place of the channel's data type. The channel
- * has no bits; an integer takes more than 64 bits, with those below it in its
- * first byte; a float has another width than its type says, or does not begin
- * with a byte; text or bytes do not begin with a byte or are no whole number of
- * them; the data type is a VAX float (4 to 6). */
+ * has no bits; an integer of more than 64 bits, counted with the bits of its
+ * lowest byte that lie below it; a float has another width than its type says,
+ * or does not begin with a byte; text or bytes do not begin with a byte or are
+ * no whole number of them; the data type is a VAX float (4 to 6). */
 #define MDF3_NO_SAMPLE 15
 /* The sample has no physical value. Place 0. It is text, bytes or a 32-bit
  * float; an integer above 9,007,199,254,740,992 or below its negative; the
@@ -116,15 +119,54 @@ extern "C" {
 
 /* The answer: four numbers of 64 bits, lowest byte first.
  *
- *   offset  0  the place
- *   offset  8  the value
- *   offset 16  the length
- *   offset 24  the kind
+ *   offset  0  the place    mdf3_place(answer)
+ *   offset  8  the value    mdf3_value(answer)
+ *   offset 16  the length   mdf3_length(answer)
+ *   offset 24  the kind     mdf3_kind(answer)
  *
  * What does not apply to a call is 0. The answer is written whole by every
  * call, whatever it returns.
  */
 #define MDF3_ANSWER_SIZE 32
+
+/* One of these numbers, by its offset. */
+static inline uint64_t mdf3_number_at(const uint8_t answer[MDF3_ANSWER_SIZE], size_t offset)
+{
+    uint64_t x = 0;
+    for (size_t i = 8; i > 0; i--)
+        x = x << 8 | answer[offset + i - 1];
+    return x;
+}
+
+static inline uint64_t mdf3_place(const uint8_t answer[MDF3_ANSWER_SIZE])
+{
+    return mdf3_number_at(answer, 0);
+}
+
+static inline uint64_t mdf3_value(const uint8_t answer[MDF3_ANSWER_SIZE])
+{
+    return mdf3_number_at(answer, 8);
+}
+
+static inline uint64_t mdf3_length(const uint8_t answer[MDF3_ANSWER_SIZE])
+{
+    return mdf3_number_at(answer, 16);
+}
+
+static inline uint64_t mdf3_kind(const uint8_t answer[MDF3_ANSWER_SIZE])
+{
+    return mdf3_number_at(answer, 24);
+}
+
+/* The 64 bits of the value as a float: where the kind is MDF3_DOUBLE, as it is
+ * for every physical value, that is the number itself. */
+static inline double mdf3_double(const uint8_t answer[MDF3_ANSWER_SIZE])
+{
+    uint64_t bits = mdf3_value(answer);
+    double value;
+    memcpy(&value, &bits, sizeof value);
+    return value;
+}
 
 /* Whether the image is accepted: returns 0, or 1 to 11. The answer holds the
  * place; value, length and kind are 0. */
@@ -136,19 +178,27 @@ uint32_t mdf3_check(const uint8_t *image, size_t image_len, uint8_t answer[MDF3_
  * Done: the copy stands at the start of out, what lies behind it there is
  * left as it was, and the value is the copy's length. Refused: no byte of
  * out is touched, and the value is 0. The answer holds the place; with 13
- * that is the length needed, so a call with out_len 0 tells how much room
- * to make. It can be far more than the image has, since what is shared
- * there is written once for every use. Length and kind are 0.
+ * that is the length needed. Length and kind are 0. A call without room asks
+ * how much to make:
+ *
+ *   uint8_t answer[MDF3_ANSWER_SIZE], none;
+ *   if (mdf3_copy(image, image_len, &none, 0, answer) == MDF3_NO_ROOM)
+ *       out_len = (size_t)mdf3_place(answer);
+ *
+ * Any other number is why there is no copy. The room can be far more than the
+ * image has, since what is shared there is written once for every use.
  *
  * Two images have equal copies, byte for byte, exactly when they say the
  * same, whatever their layout: so a copy that is there already shows a file
  * that came before. Groups, channels and records have the same numbers in the
  * copy as in the image, and the same content; only places differ.
  *
- * In a copy every block has the size of its kind and stands where the rules'
- * section 4 says, so how many groups, channels and records there are, and the
- * names and units of channels, can be read from it by following its links;
- * tool/list.c in the source does so.
+ * In a copy DG, CG and CN blocks have 28, 30 and 228 bytes, so that all their
+ * fields are there; HD has 164, from version 320 on 208; TX, PR, CC and CE
+ * keep the size that they have in the image. The blocks stand where section 4
+ * of the rules says. So how many groups, channels and records there are, and
+ * the names and units of channels, can be read from a copy by following its
+ * links; tool/list.c in the source does so.
  */
 uint32_t mdf3_copy(const uint8_t *image, size_t image_len, uint8_t *out, size_t out_len,
                    uint8_t answer[MDF3_ANSWER_SIZE]);
