@@ -52,7 +52,7 @@ static void check_one(const char *name, struct sum *s)
     switch (load(name, &f)) {
     case LOADED:
         number = mdf3_check(f.bytes, f.length, answer);
-        place = number_at(answer);
+        place = mdf3_place(answer);
         unload(&f);
         break;
     case TOO_LONG:

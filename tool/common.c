@@ -48,7 +48,7 @@ int copy_in_memory(const char *name, const struct file *image, struct file *copy
     /* with no room, an image that can be copied gives the length needed */
     number = mdf3_copy(image->bytes, image->length, &none, 0, answer);
     if (number == MDF3_NO_ROOM) {
-        copy->length = (size_t)number_at(answer);
+        copy->length = (size_t)mdf3_place(answer);
         copy->bytes = malloc(copy->length);
         if (copy->bytes == NULL)
             return complain_of(name, "its copy has no room in memory");
@@ -57,6 +57,6 @@ int copy_in_memory(const char *name, const struct file *image, struct file *copy
             return DONE;
         unload(copy);
     }
-    print_line(name, number, number_at(answer));
+    print_line(name, number, mdf3_place(answer));
     return REFUSED;
 }

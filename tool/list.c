@@ -1,4 +1,5 @@
-/* What a file holds, taken from its canonical copy: there the blocks have fixed sizes and stand one behind the other. */
+/* What a file holds, taken from its canonical copy: there DG, CG and CN blocks hold all their fields, a conversion its unit, and
+ * every link leads to a block that is there whole. */
 #include "mdf3.h"
 #include "tool.h"
 #include "words.h"

@@ -21,14 +21,13 @@ static void print_digits(double value, int single)
 }
 
 /* A float, or the bits of what is no number. */
-static void print_double(uint64_t bits)
+static void print_double(const uint8_t answer[MDF3_ANSWER_SIZE])
 {
-    double value;
-    memcpy(&value, &bits, 8);
+    double value = mdf3_double(answer);
     if (value == value)
         print_digits(value, 0);
     else
-        printf("nan, bits %016" PRIx64, bits);
+        printf("nan, bits %016" PRIx64, mdf3_value(answer));
 }
 
 static void print_single(uint64_t bits)
@@ -54,8 +53,8 @@ static void print_part(const struct file *f, uint64_t place, uint64_t length)
 
 static void print_value(const struct file *f, const uint8_t answer[MDF3_ANSWER_SIZE])
 {
-    uint64_t value = number_at(answer + 8);
-    switch (number_at(answer + 24)) {
+    uint64_t value = mdf3_value(answer);
+    switch (mdf3_kind(answer)) {
     case MDF3_UNSIGNED:
         printf("%" PRIu64, value);
         break;
@@ -66,10 +65,10 @@ static void print_value(const struct file *f, const uint8_t answer[MDF3_ANSWER_S
         print_single(value);
         break;
     case MDF3_DOUBLE:
-        print_double(value);
+        print_double(answer);
         break;
     default:
-        print_part(f, value, number_at(answer + 16));
+        print_part(f, value, mdf3_length(answer));
         break;
     }
 }
@@ -78,7 +77,7 @@ static void print_value(const struct file *f, const uint8_t answer[MDF3_ANSWER_S
 static void print_answer(const char *what, const struct file *f, uint32_t number, const uint8_t answer[MDF3_ANSWER_SIZE])
 {
     if (number != MDF3_OK) {
-        print_line(what, number, number_at(answer));
+        print_line(what, number, mdf3_place(answer));
         return;
     }
     printf("%s: 0 0 ", what);

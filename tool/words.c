@@ -43,18 +43,10 @@ const char *in_words(uint32_t number, uint64_t place)
     return number < 17 ? words[number] : "unknown";
 }
 
-uint64_t number_at(const uint8_t *answer)
-{
-    uint64_t x = 0;
-    for (int i = 7; i >= 0; i--)
-        x = x * 256 + answer[i];
-    return x;
-}
-
 /* One byte of a text. */
 static void print_byte(FILE *to, uint8_t byte)
 {
-    if (byte >= 0xA0)
+    if (byte >= 0xA0 && byte != 0xAD)
         fprintf(to, "%c%c", 0xC0 | byte >> 6, 0x80 | (byte & 0x3F));
     else
         putc(byte >= 0x20 && byte < 0x7F ? byte : '?', to);
@@ -77,8 +69,33 @@ void print_quoted(FILE *to, const uint8_t *text, size_t length)
     putc('"', to);
 }
 
-/* How many bytes the character has that begins here, in UTF-8; 0 for a control character, for a backslash, and for what is
- * no character. */
+/* Format characters and separators of lines and paragraphs (Unicode's Cf, Zl and Zp): they show nothing themselves, and
+ * change how the others are shown. */
+static int steers(uint32_t c)
+{
+    static const uint32_t ranges[][2] = {
+        {0x00AD, 0x00AD}, {0x0600, 0x0605}, {0x061C, 0x061C}, {0x06DD, 0x06DD}, {0x070F, 0x070F}, {0x0890, 0x0891},
+        {0x08E2, 0x08E2}, {0x180E, 0x180E}, {0x200B, 0x200F}, {0x2028, 0x202E}, {0x2060, 0x206F}, {0xFEFF, 0xFEFF},
+        {0xFFF9, 0xFFFB}, {0x110BD, 0x110BD}, {0x110CD, 0x110CD}, {0x13430, 0x1343F}, {0x1BCA0, 0x1BCA3}, {0x1D173, 0x1D17A},
+        {0xE0001, 0xE0001}, {0xE0020, 0xE007F},
+    };
+    for (size_t i = 0; i < sizeof ranges / sizeof ranges[0]; i++)
+        if (c >= ranges[i][0] && c <= ranges[i][1])
+            return 1;
+    return 0;
+}
+
+/* The character of so many bytes. */
+static uint32_t code_point(const uint8_t *s, size_t length)
+{
+    uint32_t c = length == 1 ? s[0] : s[0] & (0x7Fu >> length);
+    for (size_t i = 1; i < length; i++)
+        c = c << 6 | (s[i] & 0x3Fu);
+    return c;
+}
+
+/* How many bytes the character has that begins here, in UTF-8; 0 for one that controls or steers, for a backslash, and for
+ * what is no character. */
 static size_t character(const uint8_t *s)
 {
     size_t length = s[0] < 0xC2 ? 1 : s[0] < 0xE0 ? 2 : s[0] < 0xF0 ? 3 : 4;
@@ -91,7 +108,7 @@ static size_t character(const uint8_t *s)
     if ((s[0] == 0xC2 && s[1] < 0xA0) || (s[0] == 0xE0 && s[1] < 0xA0) || (s[0] == 0xED && s[1] > 0x9F) ||
         (s[0] == 0xF0 && s[1] < 0x90) || (s[0] == 0xF4 && s[1] > 0x8F))
         return 0;
-    return length;
+    return steers(code_point(s, length)) ? 0 : length;
 }
 
 void print_name(FILE *to, const char *name)

@@ -174,13 +174,19 @@ fn put_bodies(out: &mut [u8], at: usize, image: &[u8], b: Bodies, p: Places)
     put_body(out, p.display, image, display, blocks::TX);
 }
 
-// A channel with its bodies, and the link to the next one.
-fn put_channel(out: &mut [u8], at: usize, image: &[u8], x: Channel, next: usize)
-    requires { ⌜ AtChannel (now image) x × (at + channelLength (theChannel (now image) x) ≤ length (now out)) ⌝ }
+// A channel with its bodies at their places, and the link to the next one.
+fn put_channel(
+    out: &mut [u8],
+    at: usize,
+    image: &[u8],
+    x: Channel,
+    b: Bodies,
+    p: Places,
+    next: usize,
+)
+    requires { ⌜ AtChannel (now image) x × BodiesAre (now image) b (theChannel (now image) x) × PlacesAre at b p × (at + channelLength (theChannel (now image) x) ≤ length (now out)) ⌝ }
     ensures { λ _. ⌜ Wrote (now (out .entry)) (now (out .exit)) at (channelAs at next (theChannel (now (image .entry)) x)) ⌝ }
 {
-    let b = bodies_of(image, x);
-    let p = places_of(at, b);
     put_channel_block(out, at, image, x, b, p, next);
     put_bodies(out, at, image, b, p);
 }
@@ -232,9 +238,11 @@ pub fn put_channels(out: &mut [u8], at: usize, image: &[u8], channels: Channels)
                 return;
             }
             ChannelStep::Next(x, n) => {
-                let end = to + channel_length(image, x);
+                let b = bodies_of(image, x);
+                let p = places_of(to, b);
+                let end = p.end;
                 let next = channels_link(image, n, end);
-                put_channel(out, to, image, x, next);
+                put_channel(out, to, image, x, b, p, next);
                 to = end;
                 c = n;
             }

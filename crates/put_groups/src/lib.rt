@@ -10,19 +10,26 @@ ghost use Prim.Native.Nat.{_+_, _≤_};
 ghost use lib.ListN.{length};
 ghost use Rattle.write.specs.Write.{Wrote};
 ghost use Rattle.answers.specs.Readings.{target};
-ghost use Rattle.answers.specs.Copies.{linkToFirst, groupLength, groupsLength, groupsBytes};
+ghost use Rattle.answers.specs.Copies.{linkToFirst, channelsLength, groupLength, groupsLength, groupsBytes};
 ghost use Rattle.reading.specs.Steps.{AtGroups, AtGroup, AtKeys, groupsLeft, theGroup};
 ghost use Rattle.put_channels.specs.Channels.{Capped, SumIs};
 ghost use Rattle.put_groups.specs.Groups.{linkIf, headsAs, blocksAs, Known};
 
 // ---- a group
 
-// The length of a group. Above the longest copy it is not exact.
-fn group_length(image: &[u8], g: Group) -> usize
+// The length of its channels, and how many they are.
+fn channels_of(image: &[u8], g: Group) -> Sum
     requires { ⌜ AtGroup (now image) g ⌝ }
+    ensures { λ r. ⌜ SumIs r (channelsLength (theGroup (now (image .entry)) g .channels)) (length (theGroup (now (image .entry)) g .channels)) ⌝ }
+{
+    put_channels::channels_sum(image, g.channels(image))
+}
+
+// The length of a group, given that of its channels. Above the longest copy it is not exact.
+fn group_length(image: &[u8], g: Group, sum: Sum) -> usize
+    requires { ⌜ AtGroup (now image) g × SumIs sum (channelsLength (theGroup (now image) g .channels)) (length (theGroup (now image) g .channels)) ⌝ }
     ensures { λ r. ⌜ Capped r (groupLength (theGroup (now (image .entry)) g)) × (58 ≤ r) × (r ≤ 2147483648) ⌝ }
 {
-    let sum = put_channels::channels_sum(image, g.channels(image));
     let comment = put_channels::body_length(g.comment(image));
     let n = 58 + comment + sum.length + g.count(image) * g.size(image);
     if 2147483647 < n {
@@ -65,12 +72,11 @@ fn put_heads(
 }
 
 // A group with all that it holds but its records, and the link to the next one; and where its records are to stand.
-fn put_blocks(out: &mut [u8], at: usize, image: &[u8], g: Group, next: usize) -> usize
-    requires { ⌜ AtGroup (now image) g × (groupLength (theGroup (now image) g) ≤ 2147483647) × (at + groupLength (theGroup (now image) g) ≤ length (now out)) ⌝ }
+fn put_blocks(out: &mut [u8], at: usize, image: &[u8], g: Group, sum: Sum, next: usize) -> usize
+    requires { ⌜ AtGroup (now image) g × SumIs sum (channelsLength (theGroup (now image) g .channels)) (length (theGroup (now image) g .channels)) × (groupLength (theGroup (now image) g) ≤ 2147483647) × (at + groupLength (theGroup (now image) g) ≤ length (now out)) ⌝ }
     ensures { λ r. ⌜ Wrote (now (out .entry)) (now (out .exit)) at (blocksAs at next (theGroup (now (image .entry)) g)) × (r ≡ at + length (blocksAs at next (theGroup (now (image .entry)) g))) ⌝ }
 {
     let comment = g.comment(image);
-    let sum = put_channels::channels_sum(image, g.channels(image));
     put_heads(out, at, image, g, comment, sum, next);
     let tx = at + 58;
     put_channels::put_body(out, tx, image, comment, blocks::TX);
@@ -93,7 +99,7 @@ pub fn groups_sum(image: &[u8], groups: Groups, start: usize) -> Sum
         let GroupStep::Next(g, n) = c.next(image) else {
             return Sum { length: sum, count };
         };
-        sum += group_length(image, g);
+        sum += group_length(image, g, channels_of(image, g));
         if 2147483647 < sum {
             return Sum { length: sum, count };
         }
@@ -128,9 +134,10 @@ pub fn put_groups(out: &mut [u8], at: usize, image: &[u8], groups: Groups)
                 return;
             }
             GroupStep::Next(g, n) => {
-                let end = to + group_length(image, g);
+                let sum = channels_of(image, g);
+                let end = to + group_length(image, g, sum);
                 let next = groups_link(image, n, end);
-                let records = put_blocks(out, to, image, g, next);
+                let records = put_blocks(out, to, image, g, sum, next);
                 put_records::put_records(out, records, image, g, n, &mut places);
                 to = end;
                 c = n;

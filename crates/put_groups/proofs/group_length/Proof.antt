@@ -9,17 +9,11 @@ use borrow.Author.Needs.{needs}
 use Rattle.put_groups.proofs.group_length.Statement.{statement}
 use Rattle.put_groups.proofs.group_length.Tie as tie
 
-channels-requires : tie.Need-channels-requires
-channels-requires c κs = search needs
-
-channels-sum-requires : tie.Need-channels-sum-requires
-channels-sum-requires c κs = search needs
-
 comment-requires : tie.Need-comment-requires
 comment-requires c κs = search needs
 
 body-length-requires : tie.Need-body-length-requires
-body-length-requires c κs = small-written (c .before .before .before .before .args .image .now) (c .comment .result) (c .comment .ensures .inside)
+body-length-requires c κs = small-written (c .before .before .args .image .now) (c .comment .result) (c .comment .ensures .inside)
 
 add-n : tie.Need-add-n
 add-n c = search needs
@@ -37,30 +31,28 @@ mul-n : tie.Need-mul-n
 mul-n c = omega (arith, product-small _ _ (c .before .count .ensures .1) (c .size .ensures .1))
 
 add-n-3 : tie.Need-add-n-3
-add-n-3 c = omega (arith, product-small _ _ (c .before .count .ensures .1) (c .size .ensures .1), c .before .before .before .body-length .ensures .1, c .before .before .before .before .before .channels-sum .ensures .near)
+add-n-3 c = omega (arith, product-small _ _ (c .before .count .ensures .1) (c .size .ensures .1), c .before .before .before .body-length .ensures .1, c .before .before .before .before .before .before .pre .1 .near)
 
 returns : tie.Need-returns
 returns c =
-    let a = c .before .before .before .before .before .before .before .before .before .args in
-    let ok = group-well-formed _ _ _ _ (c .before .before .before .before .before .before .before .before .before .pre) (known-bytes (a .image .now) (λ i. omega (arith, c .before .before .before .before .before .before .before .before .shared-slice-known .given i))) in
-    let t = c .before .before .before .before .body-length .ensures .0 ∙ written-length (a .image .now) (c .before .before .before .before .before .comment .result) (c .before .before .before .before .before .comment .ensures) in
-    let s = rw (c .before .before .before .before .before .before .before .channels .ensures .2) at (c .before .before .before .before .before .before .channels-sum .ensures .length) in
-    (group-over (theGroup (a .image .now) (a .g)) ok _ _ _ _ t s (c .before .before .count .ensures .0) (c .before .size .ensures .0) (c .if1 .taken), omega arith, omega arith)
+    let s = c .before .before .before .before .before .before .before in
+    let i = s .args .image .now in
+    let ok = group-well-formed _ _ _ _ (s .pre .0) (known-bytes i (λ k. omega (arith, c .before .before .before .before .before .before .shared-slice-known .given k))) in
+    let t = c .before .before .before .before .body-length .ensures .0 ∙ written-length i (c .before .before .before .before .before .comment .result) (c .before .before .before .before .before .comment .ensures) in
+    (group-over (theGroup i (s .args .g)) ok _ _ _ _ t (s .pre .1 .length) (c .before .before .count .ensures .0) (c .before .size .ensures .0) (c .if1 .taken), omega arith, omega arith)
 
 returns-2 : tie.Need-returns-2
 returns-2 c =
-    let a = c .before .before .before .before .before .before .before .before .before .args in
-    let ok = group-well-formed _ _ _ _ (c .before .before .before .before .before .before .before .before .before .pre) (known-bytes (a .image .now) (λ i. omega (arith, c .before .before .before .before .before .before .before .before .shared-slice-known .given i))) in
-    let t = c .before .before .before .before .body-length .ensures .0 ∙ written-length (a .image .now) (c .before .before .before .before .before .comment .result) (c .before .before .before .before .before .comment .ensures) in
-    let s = rw (c .before .before .before .before .before .before .before .channels .ensures .2) at (c .before .before .before .before .before .before .channels-sum .ensures .length) in
-    (group-exact (theGroup (a .image .now) (a .g)) ok _ _ _ _ t s (c .before .before .count .ensures .0) (c .before .size .ensures .0) (omega (arith, c .if1 .left)), omega arith, omega (arith, c .if1 .left))
+    let s = c .before .before .before .before .before .before .before in
+    let i = s .args .image .now in
+    let ok = group-well-formed _ _ _ _ (s .pre .0) (known-bytes i (λ k. omega (arith, c .before .before .before .before .before .before .shared-slice-known .given k))) in
+    let t = c .before .before .before .before .body-length .ensures .0 ∙ written-length i (c .before .before .before .before .before .comment .result) (c .before .before .before .before .before .comment .ensures) in
+    (group-exact (theGroup i (s .args .g)) ok _ _ _ _ t (s .pre .1 .length) (c .before .before .count .ensures .0) (c .before .size .ensures .0) (omega (arith, c .if1 .left)), omega arith, omega (arith, c .if1 .left))
 
 pub group-length-spec : {M : Type 1} → statement M
 group-length-spec =
     tie.close
     (tie.spec
-    channels-requires
-    channels-sum-requires
     comment-requires
     body-length-requires
     add-n

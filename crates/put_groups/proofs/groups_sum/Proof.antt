@@ -34,32 +34,37 @@ returns c =
 enum-known-g : tie.Need-enum-known-g Inv-loop μ-loop
 enum-known-g c = search needs
 
-group-length-requires : tie.Need-group-length-requires Inv-loop μ-loop
-group-length-requires c κs =
+channels-of-requires : tie.Need-channels-of-requires Inv-loop μ-loop
+channels-of-requires c κs =
     let w = rw (c .before .g .given .1) at (c .before .before .before .next .ensures) in
     w .0
 
+group-length-requires : tie.Need-group-length-requires Inv-loop μ-loop
+group-length-requires c κs =
+    let w = rw (c .before .before .g .given .1) at (c .before .before .before .before .next .ensures) in
+    (w .0, c .channels-of .ensures)
+
 add-sum : tie.Need-add-sum Inv-loop μ-loop
-add-sum c = omega (arith, c .group-length .ensures .2, c .before .before .before .before .before .loop .inv .1)
+add-sum c = omega (arith, c .group-length .ensures .2, c .before .before .before .before .before .before .loop .inv .1)
 
 returns-2 : tie.Need-returns-2 Inv-loop μ-loop
 returns-2 c =
-    let l = c .before .before .before .before .before .before .loop in
-    let w = rw (c .before .before .before .g .given .1) at (c .before .before .before .before .before .next .ensures) in
+    let l = c .before .before .before .before .before .before .before .loop in
+    let w = rw (c .before .before .before .before .g .given .1) at (c .before .before .before .before .before .before .next .ensures) in
     sum-over _ _ _ _ (c .if1 .taken) (omega (arith, l .inv .3, ap groupsLength (w .3), capped-least (c .before .group-length .ensures .0) (c .before .group-length .ensures .2))) (omega (arith, l .inv .1, c .before .group-length .ensures .2))
 
 add-count : tie.Need-add-count Inv-loop μ-loop
-add-count c = omega (arith, c .before .before .before .before .before .before .loop .inv .1, c .before .before .before .before .before .before .loop .inv .2)
+add-count c = omega (arith, c .before .before .before .before .before .before .before .loop .inv .1, c .before .before .before .before .before .before .before .loop .inv .2)
 
 loop-less : tie.Need-loop-less Inv-loop μ-loop
 loop-less c =
-    let w = rw (c .before .before .before .g .given .1) at (c .before .before .before .before .before .next .ensures) in
+    let w = rw (c .before .before .before .before .g .given .1) at (c .before .before .before .before .before .before .next .ensures) in
     omega (arith, ap length (w .3))
 
 loop-again : tie.Need-loop-again Inv-loop μ-loop
 loop-again c =
-    let l = c .before .before .before .before .before .before .loop in
-    let w = rw (c .before .before .before .g .given .1) at (c .before .before .before .before .before .next .ensures) in
+    let l = c .before .before .before .before .before .before .before .loop in
+    let w = rw (c .before .before .before .before .g .given .1) at (c .before .before .before .before .before .before .next .ensures) in
     let e = capped-exact (c .before .group-length .ensures .0) (omega (arith, c .if1 .left)) in
     (w .1, omega (arith, c .if1 .left), omega (arith, l .inv .2, c .before .group-length .ensures .1), omega (arith, l .inv .3, ap groupsLength (w .3), e), omega (arith, l .inv .4, ap length (w .3)))
 
@@ -74,6 +79,7 @@ groups-sum-spec =
     enum-known-g
     enum-told
     returns
+    channels-of-requires
     group-length-requires
     add-sum
     returns-2

@@ -68,30 +68,36 @@ went w = rw (w .before .g .given .1) at (w .before .before .before .next .ensure
 formed : (w : tie.After-known-told Inv-loop μ-loop) → WellFormedGroup (theGroup (image w) (group w))
 formed w = group-well-formed _ _ _ _ (went w .0) (known-bytes (image w) (λ i. omega (arith, at-loop w .before .shared-slice-known .given i)))
 
-group-length-requires : tie.Need-group-length-requires Inv-loop μ-loop
-group-length-requires c κs = went c .0
+channels-of-requires : tie.Need-channels-of-requires Inv-loop μ-loop
+channels-of-requires c κs = went c .0
 
-exact : (c : tie.After-group-length Inv-loop μ-loop) → c .group-length .result ≡ groupLength (theGroup (image (c .before)) (group (c .before)))
-exact c = c .group-length .ensures .0 .exact (omega (arith, ap groupsLength (went (c .before) .3), at-loop (c .before) .loop .inv .4))
+group-length-requires : tie.Need-group-length-requires Inv-loop μ-loop
+group-length-requires c κs = (went (c .before) .0, c .channels-of .ensures)
+
+exact : (c : tie.After-group-length Inv-loop μ-loop) → c .group-length .result ≡ groupLength (theGroup (image (c .before .before)) (group (c .before .before)))
+exact c =
+    let w = c .before .before in
+    c .group-length .ensures .0 .exact (omega (arith, ap groupsLength (went w .3), at-loop w .loop .inv .4))
 
 add-end : tie.Need-add-end Inv-loop μ-loop
 add-end c =
-    let w = c .before in
+    let w = c .before .before in
     let l = at-loop w .loop in
     omega (arith, exact c, l .inv .3, ap groupsLength (went w .3), start w .pre .3, start w .good)
 
 groups-link-requires : tie.Need-groups-link-requires Inv-loop μ-loop
-groups-link-requires c κs = went (c .before) .1
+groups-link-requires c κs = went (c .before .before) .1
 
 put-blocks-requires : tie.Need-put-blocks-requires Inv-loop μ-loop
 put-blocks-requires c κs =
-    let w = c .before .before .before in
+    let at-channels-of = c .before .before .before in
+    let w = at-channels-of .before in
     let l = at-loop w .loop in
-    (went w .0, omega (arith, ap groupsLength (went w .3), l .inv .4), omega (arith, l .inv .3, ap groupsLength (went w .3), start w .pre .3, l .inv .1))
+    (went w .0, at-channels-of .channels-of .ensures, omega (arith, ap groupsLength (went w .3), l .inv .4), omega (arith, l .inv .3, ap groupsLength (went w .3), start w .pre .3, l .inv .1))
 
 -- behind the blocks: the turn, the link to the next group, and where the group ends
 abbrev turn : tie.After-put-blocks Inv-loop μ-loop → tie.After-known-told Inv-loop μ-loop
-turn p = p .before .before .before .before
+turn p = p .before .before .before .before .before
 
 abbrev linked : tie.After-put-blocks Inv-loop μ-loop → tie.After-groups-link Inv-loop μ-loop
 linked p = p .before .before
@@ -150,6 +156,7 @@ put-groups-spec =
     same-length
     returns
     enum-known-g
+    channels-of-requires
     group-length-requires
     add-end
     groups-link-requires
