@@ -14,7 +14,6 @@
 #include <math.h>
 #include <stdio.h>
 #include <stdlib.h>
-#include <string.h>
 
 static int trouble(const char *name, const char *what)
 {
@@ -22,25 +21,30 @@ static int trouble(const char *name, const char *what)
     return 2;
 }
 
-/* The whole file; NULL where it cannot be read. */
-static uint8_t *load(const char *name, size_t *length)
+struct bytes {
+    uint8_t *at;
+    size_t length;
+};
+
+/* The whole file; at NULL where it cannot be read. */
+static struct bytes load(const char *name)
 {
     FILE *f = fopen(name, "rb");
-    uint8_t *bytes = NULL;
+    struct bytes image = {NULL, 0};
     long end;
     if (f == NULL)
-        return NULL;
+        return image;
     if (fseek(f, 0, SEEK_END) == 0 && (end = ftell(f)) >= 0 && fseek(f, 0, SEEK_SET) == 0) {
-        *length = (size_t)end;
+        image.length = (size_t)end;
         /* one byte more, so that an empty file has a pointer too */
-        bytes = (uint8_t *)malloc(*length + 1);
-        if (bytes != NULL && fread(bytes, 1, *length, f) != *length) {
-            free(bytes);
-            bytes = NULL;
+        image.at = (uint8_t *)malloc(image.length + 1);
+        if (image.at != NULL && fread(image.at, 1, image.length, f) != image.length) {
+            free(image.at);
+            image.at = NULL;
         }
     }
     fclose(f);
-    return bytes;
+    return image;
 }
 
 /* A number in decimal digits alone. */
@@ -52,47 +56,36 @@ static int read_number(const char *text, uint64_t *number)
     return text[0] >= '0' && text[0] <= '9' && *end == '\0' && errno == 0;
 }
 
-/* One of the four numbers of an answer. */
-static uint64_t number_at(const uint8_t *answer)
-{
-    uint64_t x = 0;
-    for (int i = 7; i >= 0; i--)
-        x = x * 256 + answer[i];
-    return x;
-}
-
 static int refused(const char *name, uint32_t number, const uint8_t *answer)
 {
-    printf("%s: refused, %u at %llu\n", name, (unsigned)number, (unsigned long long)number_at(answer));
+    printf("%s: refused, %u at %llu\n", name, (unsigned)number, (unsigned long long)mdf3_place(answer));
     return 1;
 }
 
 /* Adds up until there are no more records. The last number is MDF3_NO_SUCH, or why a value cannot be posted. */
-static uint32_t add_up(const uint8_t *image, size_t length, uint64_t group, uint64_t channel, uint8_t *answer,
-                       uint64_t *count, double *total)
+static uint32_t add_up(struct bytes image, uint64_t group, uint64_t channel, uint8_t *answer, uint64_t *count, double *total)
 {
     uint32_t number;
     for (*count = 0;; ++*count) {
-        uint64_t bits;
-        double value;
-        number = mdf3_physical(image, length, group, channel, *count, answer);
+        number = mdf3_physical(image.at, image.length, group, channel, *count, answer);
         if (number != MDF3_OK)
             return number;
-        bits = number_at(answer + 8);
-        memcpy(&value, &bits, sizeof value);
-        *total += value;
+        *total += mdf3_double(answer);
     }
 }
 
-static int post_copy(const char *name, const uint8_t *copy, size_t length, uint64_t group, uint64_t channel)
+static int post_copy(const char *name, struct bytes image, struct bytes copy, uint64_t group, uint64_t channel)
 {
     uint8_t answer[MDF3_ANSWER_SIZE];
     uint64_t count;
     double total = 0;
-    uint32_t number = add_up(copy, length, group, channel, answer, &count, &total);
+    uint32_t number = add_up(copy, group, channel, answer, &count, &total);
     /* behind a record, "no such record" is the end; at the first it may be the group or the channel that is not there */
-    if (number != MDF3_NO_SUCH || count == 0)
+    if (number != MDF3_NO_SUCH || count == 0) {
+        /* the same numbers lead to the same sample in the file; only there its place is what the reader looks for */
+        number = mdf3_physical(image.at, image.length, group, channel, count, answer);
         return refused(name, number, answer);
+    }
     if (!isfinite(total))
         return trouble(name, "the total is too large");
     printf("%s: %llu records, total %.2f\n", name, (unsigned long long)count, total);
@@ -100,41 +93,40 @@ static int post_copy(const char *name, const uint8_t *copy, size_t length, uint6
 }
 
 /* Posts from the canonical copy, in memory of its own. */
-static int post(const char *name, const uint8_t *image, size_t length, uint64_t group, uint64_t channel)
+static int post(const char *name, struct bytes image, uint64_t group, uint64_t channel)
 {
-    uint8_t answer[MDF3_ANSWER_SIZE], none, *copy;
-    size_t room;
+    uint8_t answer[MDF3_ANSWER_SIZE], none;
+    struct bytes copy;
     int result;
-    uint32_t number = mdf3_check(image, length, answer);
+    uint32_t number = mdf3_check(image.at, image.length, answer);
     if (number != MDF3_OK)
         return refused(name, number, answer);
     /* with no room, an image that can be copied gives the length needed */
-    number = mdf3_copy(image, length, &none, 0, answer);
+    number = mdf3_copy(image.at, image.length, &none, 0, answer);
     if (number != MDF3_NO_ROOM)
         return refused(name, number, answer);
-    room = (size_t)number_at(answer);
-    copy = (uint8_t *)malloc(room);
-    if (copy == NULL)
+    copy.length = (size_t)mdf3_place(answer);
+    copy.at = (uint8_t *)malloc(copy.length);
+    if (copy.at == NULL)
         return trouble(name, "no memory for its copy");
-    number = mdf3_copy(image, length, copy, room, answer);
-    result = number == MDF3_OK ? post_copy(name, copy, room, group, channel) : refused(name, number, answer);
-    free(copy);
+    number = mdf3_copy(image.at, image.length, copy.at, copy.length, answer);
+    result = number == MDF3_OK ? post_copy(name, image, copy, group, channel) : refused(name, number, answer);
+    free(copy.at);
     return result;
 }
 
 int main(int argc, char **argv)
 {
-    size_t length = 0;
     uint64_t group, channel;
-    uint8_t *image;
+    struct bytes image;
     int result;
     if (argc != 4 || !read_number(argv[2], &group) || !read_number(argv[3], &channel))
         return trouble("usage", "ledger FILE GROUP CHANNEL");
-    image = load(argv[1], &length);
-    if (image == NULL)
+    image = load(argv[1]);
+    if (image.at == NULL)
         return trouble(argv[1], "cannot be read");
-    result = post(argv[1], image, length, group, channel);
-    free(image);
+    result = post(argv[1], image, group, channel);
+    free(image.at);
     if (fflush(stdout) != 0 || ferror(stdout))
         return trouble("standard output", "cannot be written");
     return result;

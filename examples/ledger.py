@@ -74,6 +74,8 @@ def post(library, image, group, channel):
         except Refused as refused:
             if refused.args[0] == NO_SUCH and count > 0:
                 return count, total
+            # the same numbers lead to the same sample in the file, and tell its place there
+            library.physical(image, group, channel, count)
             raise
         count += 1
 
