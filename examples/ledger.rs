@@ -91,7 +91,10 @@ fn post(image: &[u8], group: u64, channel: u64) -> Result<(u64, f64), Refused> {
         match physical(&kept, group, channel, count) {
             Ok(value) => total += value,
             Err(Refused(NO_SUCH, _)) if count > 0 => return Ok((count, total)),
-            Err(refused) => return Err(refused),
+            // The image refuses the same value: its place is the one to tell.
+            Err(refused) => {
+                return Err(physical(image, group, channel, count).err().unwrap_or(refused));
+            }
         }
         count += 1;
     }
@@ -124,12 +127,14 @@ fn tell(line: &str, status: u8) -> ExitCode {
 }
 
 fn main() -> ExitCode {
-    let Some((path, group, channel)) = arguments() else {
-        return trouble("usage: ledger FILE GROUP CHANNEL");
+    let (path, group, channel) = match arguments() {
+        Some(given) => given,
+        None => return trouble("usage: ledger FILE GROUP CHANNEL"),
     };
     let name = path.to_string_lossy();
-    let Ok(image) = fs::read(&path) else {
-        return trouble(&format!("{name}: cannot be read"));
+    let image = match fs::read(&path) {
+        Ok(image) => image,
+        Err(_) => return trouble(&format!("{name}: cannot be read")),
     };
     match post(&image, group, channel) {
         Ok((_, total)) if !total.is_finite() => trouble(&format!("{name}: the total is too large")),

@@ -8,9 +8,9 @@ fn main() {
     if env::var_os("CARGO_FEATURE_SELFCHECK").is_some() {
         return;
     }
-    let Ok(folder) = env::var("MDF3_LIB_DIR") else {
-        panic!("set MDF3_LIB_DIR to the folder of libmdf3.a, or use --features selfcheck");
-    };
+    let folder = env::var("MDF3_LIB_DIR").unwrap_or_else(|_| {
+        panic!("set MDF3_LIB_DIR to the folder of libmdf3.a, or use --features selfcheck")
+    });
     println!("cargo:rerun-if-changed={folder}/libmdf3.a");
     println!("cargo:rustc-link-search=native={folder}");
     println!("cargo:rustc-link-lib=static=mdf3");

@@ -182,7 +182,7 @@ fn empty_memory(tally: &mut Tally) -> Result<(), Difference> {
     tally.note_check(2);
     let smallest = Sheet::new(300, 164).bytes;
     for (image, length, number, place) in
-        [(nowhere.cast_const(), 0, 2, 0), (smallest.as_ptr(), smallest.len(), 13, 228)]
+        [(nowhere as *const u8, 0, 2, 0), (smallest.as_ptr(), smallest.len(), 13, 228)]
     {
         let library = library::copy(image, length, nowhere, 0);
         if library != Ok(canonical::Answer { number, place, value: 0 }) {
@@ -228,9 +228,7 @@ fn long_output(tally: &mut Tally) -> Result<(), Difference> {
 fn whole_copy(image: &[u8], output: &mut Output, tally: &mut Tally) -> Result<(), Difference> {
     let found = find(image);
     let answer = compare::compare_answer(image, length_of(&found), output, tally)?;
-    let Ok(found) = found else {
-        return Err(Difference::new("long copy", "refused"));
-    };
+    let found = found.map_err(|_| Difference::new("long copy", "refused"))?;
     let copy = output.start(answer.value as usize);
     let (mut end, mut equal) = (0, true);
     canonical::pieces(&found.reading, |piece| {

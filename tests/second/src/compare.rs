@@ -61,7 +61,7 @@ pub fn compare(
     compare_check(image, &found, wanted.check, tally)?;
     let mut copy = None;
     if let Ok(found) = &found {
-        if wanted.length.is_some_and(|length| length != found.length) {
+        if wanted.length.unwrap_or(found.length) != found.length {
             let text = format!("{}, expected {:?}", found.length, wanted.length);
             return Err(Difference::new("second's length", text));
         }
@@ -112,8 +112,8 @@ fn made_copy(found: &Found<'_>, expected: Option<&[u8]>) -> Result<Vec<u8>, Diff
     if copy.len() as u64 != found.length {
         return trouble(format!("{} bytes, foretold {}", copy.len(), found.length));
     }
-    if expected.is_some_and(|bytes| bytes != copy) {
-        let at = first_difference(expected.unwrap_or(&[]), &copy);
+    if let Some(bytes) = expected.filter(|&bytes| bytes != copy) {
+        let at = first_difference(bytes, &copy);
         return trouble(format!("differs from what is expected at {at}"));
     }
     match find(&copy) {
@@ -208,8 +208,9 @@ pub fn compare_pair(
     same: bool,
     tally: &mut Tally,
 ) -> Result<(), Difference> {
-    let (Ok(one), Ok(other)) = (find(one), find(other)) else {
-        return Ok(());
+    let (one, other) = match (find(one), find(other)) {
+        (Ok(one), Ok(other)) => (one, other),
+        _ => return Ok(()),
     };
     if one.length.max(other.length) > LONG {
         return Ok(());

@@ -179,9 +179,12 @@ fn main() -> ExitCode {
     ];
     for (label, part) in parts {
         let begin = Instant::now();
-        let Some(tally) = part(&options) else {
-            println!("{label}: answers differ");
-            return ExitCode::from(1);
+        let tally = match part(&options) {
+            Some(tally) => tally,
+            None => {
+                println!("{label}: answers differ");
+                return ExitCode::from(1);
+            }
         };
         total.add(&tally);
         tally.print(&format!("{label} ({:.1} s)", begin.elapsed().as_secs_f64()));

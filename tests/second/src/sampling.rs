@@ -75,8 +75,9 @@ fn questions(reading: Result<&Reading<'_>, Refusal>) -> Vec<Asked> {
     let mut ask = |group, channel, record| list.push(Asked { group, channel, record });
     ask(u64::MAX, u64::MAX, u64::MAX);
     ask(0, 0, 0);
-    let Ok(reading) = reading else {
-        return list;
+    let reading = match reading {
+        Ok(reading) => reading,
+        Err(_) => return list,
     };
     let groups = reading.groups.len() as u64;
     for group in [groups, groups + 1, WRAP, 1 << 63, u64::MAX] {

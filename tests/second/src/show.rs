@@ -107,9 +107,12 @@ fn write(folder: &Path, count: u64, seed: u64) -> std::io::Result<()> {
 fn main() -> ExitCode {
     let words: Vec<String> = std::env::args().skip(1).collect();
     let numbers: Vec<u64> = words.iter().skip(1).filter_map(|word| word.parse().ok()).collect();
-    let (Some(folder), &[count, seed]) = (words.first(), &numbers[..]) else {
-        eprintln!("usage: show FOLDER COUNT SEED");
-        return ExitCode::from(2);
+    let (folder, count, seed) = match (words.first(), &numbers[..]) {
+        (Some(folder), &[count, seed]) => (folder, count, seed),
+        _ => {
+            eprintln!("usage: show FOLDER COUNT SEED");
+            return ExitCode::from(2);
+        }
     };
     match write(Path::new(folder), count, seed) {
         Ok(()) => ExitCode::SUCCESS,

@@ -122,8 +122,9 @@ fn pick_site(rng: &mut Rng, made: &Made, wanted: impl Fn(What) -> bool) -> Optio
 
 fn rewrite_link(rng: &mut Rng, made: &Made, bytes: &mut [u8]) {
     let is_link = |w| matches!(w, What::Next | What::Link | What::Barred | What::Data);
-    let Some(site) = pick_site(rng, made, is_link) else {
-        return;
+    let site = match pick_site(rng, made, is_link) {
+        Some(site) => site,
+        None => return,
     };
     let end = bytes.len();
     let old = read(bytes, site.place, 4) as usize;
@@ -160,8 +161,9 @@ fn make_loop(rng: &mut Rng, made: &Made, bytes: &mut [u8]) {
 
 fn rewrite_field(rng: &mut Rng, made: &Made, bytes: &mut [u8]) {
     let is_field = |w| !matches!(w, What::Next | What::Link | What::Data);
-    let Some(site) = pick_site(rng, made, is_field) else {
-        return;
+    let site = match pick_site(rng, made, is_field) {
+        Some(site) => site,
+        None => return,
     };
     let old = read(bytes, site.place, site.width);
     let near = [old.wrapping_add(1), old.wrapping_sub(1), old.wrapping_add(8)];
@@ -189,12 +191,11 @@ fn rewrite_field(rng: &mut Rng, made: &Made, bytes: &mut [u8]) {
 
 /// Record size 0 for a group that mostly wants records.
 fn empty_record(rng: &mut Rng, made: &Made, bytes: &mut [u8]) {
-    let Some(site) = pick_site(rng, made, |w| w == What::RecordSize) else {
-        return;
-    };
-    write(bytes, site.place, 0, 2);
-    let count = rng.pick(&[0, 1, 1, 2, 0x0100_0000, 0xFFFF_FFFF]);
-    write(bytes, site.place + 2, count, 4);
+    if let Some(site) = pick_site(rng, made, |w| w == What::RecordSize) {
+        write(bytes, site.place, 0, 2);
+        let count = rng.pick(&[0, 1, 1, 2, 0x0100_0000, 0xFFFF_FFFF]);
+        write(bytes, site.place + 2, count, 4);
+    }
 }
 
 /// Changes a byte of the records, where the IDs are.

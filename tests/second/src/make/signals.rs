@@ -122,7 +122,7 @@ impl Signals {
 pub fn plant(record: &mut [u8], signal: Signal, value: u64) {
     let (start, bits) = (usize::from(signal.start), usize::from(signal.bits));
     let first = start / 8 + usize::from(signal.offset);
-    let count = (start % 8 + bits).div_ceil(8);
+    let count = (start % 8 + bits + 7) / 8;
     for n in 0..bits.min(64) {
         let bit = start % 8 + n;
         let byte = match signal.data_type {
