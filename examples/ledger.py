@@ -3,7 +3,7 @@
 
 usage: ledger.py LIBRARY FILE GROUP CHANNEL
 
-LIBRARY is the shared library: make build/libmdf3.so
+LIBRARY is the shared library: libmdf3.so.1 where it is installed, build/libmdf3.so.1 after make
 """
 import ctypes
 import math

@@ -78,14 +78,6 @@ static void same(struct answer one, struct answer other, const char *what)
         fail(what);
 }
 
-static uint64_t number_at(const uint8_t *bytes)
-{
-    uint64_t x = 0;
-    for (int i = 7; i >= 0; i--)
-        x = x * 256 + bytes[i];
-    return x;
-}
-
 /* Check, samples and physical values of an image that stands somewhere. */
 static void asked(const uint8_t *image, size_t length, const uint8_t *plain, struct fenced answers, int at_end)
 {
@@ -128,7 +120,7 @@ static void copies(const uint8_t *image, size_t length, const uint8_t *plain, in
     uint8_t none;
     size_t needed;
     a.number = mdf3_copy(plain, length, &none, 0, a.bytes);
-    needed = a.number == 13 ? (size_t)number_at(a.bytes) : 100;
+    needed = a.number == MDF3_NO_ROOM ? (size_t)mdf3_place(a.bytes) : 100;
     copied(image, length, plain, 0, at_end);
     copied(image, length, plain, needed, at_end);
     copied(image, length, plain, needed - 1, at_end);
@@ -166,6 +158,18 @@ static void try_file(const char *name)
     free(bytes);
 }
 
+/* ---- the numbers of an answer, as the header reads them */
+
+static void try_readers(void)
+{
+    static const uint8_t answer[MDF3_ANSWER_SIZE] = {1, 2, 3, 4, 5, 6, 7, 0x88, 0, 0, 0, 0, 0, 0, 0xF8, 0xBF,
+                                                     9, 0, 0, 0, 0, 0, 0, 0,    4, 0, 0, 0, 0, 0, 0, 0x80};
+    if (mdf3_place(answer) != UINT64_C(0x8807060504030201) || mdf3_value(answer) != UINT64_C(0xBFF8000000000000)
+        || mdf3_length(answer) != 9 || mdf3_kind(answer) != UINT64_C(0x8000000000000004) || mdf3_double(answer) != -1.5)
+        fail("readers");
+    compared += 5;
+}
+
 /* ---- no bytes: nothing is read or written through such pointers */
 
 static void try_nothing(void)
@@ -190,7 +194,7 @@ static void large(const char *name, size_t length, uint32_t wanted)
         fail(name);
     fclose(from);
     if (mdf3_check(image, length, answer) != wanted || mdf3_sample(image, length, 0, 0, 0, answer) != wanted
-        || mdf3_physical(image, length, 0, 0, 0, answer) != wanted || number_at(answer) != 0)
+        || mdf3_physical(image, length, 0, 0, 0, answer) != wanted || mdf3_place(answer) != 0)
         fail("2 GiB");
     compared += 3;
     unfence(f);
@@ -201,6 +205,7 @@ int main(int argc, char **argv)
     int first = argc > 1 && strcmp(argv[1], "--large") == 0 ? 2 : 1;
     if (first >= argc)
         fail("no files");
+    try_readers();
     try_nothing();
     for (int i = first; i < argc; i++)
         try_file(argv[i]);
