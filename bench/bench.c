@@ -1,6 +1,6 @@
-/* How long check, copy and sample take, beside a rewrite in plain C, the second implementation, a memcpy and a plain read of
- * the same bytes, all in one run. The figures are ratios, and nothing passes or fails by time; an answer or a copy that
- * differs fails. The rows are those of docs/BENCHMARKS.md. */
+/* How long check, copy and sample take, beside two rewrites in plain C, the second implementation, a memcpy and a plain read,
+ * all in one run. The figures are ratios, and nothing passes or fails by time; an answer or a copy that differs fails.
+ * docs/BENCHMARKS.md says what the rows and columns mean. */
 #include "made.h"
 #include "mdf3.h"
 #include "plain.h"
@@ -9,21 +9,33 @@
 #include <stdlib.h>
 #include <string.h>
 
-uint32_t second_check(const uint8_t *image, size_t image_len, uint8_t answer[32]);
-uint32_t second_copy(const uint8_t *image, size_t image_len, uint8_t *out, size_t out_len, uint8_t answer[32]);
+uint32_t second_check(const uint8_t *image, size_t image_len, uint8_t answer[MDF3_ANSWER_SIZE]);
+uint32_t second_copy(const uint8_t *image, size_t image_len, uint8_t *out, size_t out_len, uint8_t answer[MDF3_ANSWER_SIZE]);
 uint32_t second_sample(const uint8_t *image, size_t image_len, uint64_t group, uint64_t channel, uint64_t record,
-                       uint8_t answer[32]);
+                       uint8_t answer[MDF3_ANSWER_SIZE]);
+uint32_t second_physical(const uint8_t *image, size_t image_len, uint64_t group, uint64_t channel, uint64_t record,
+                         uint8_t answer[MDF3_ANSWER_SIZE]);
 
-enum who { LIBRARY, PLAIN, SECOND, MEMCPY, READ, ALL };
+/* Four or five are measured in a row of the table, so each of them begins in as many turns as another. */
+#define TURNS 20
+
+/* Who is measured: those before MEMCPY answer, those before READ write. */
+enum who { LIBRARY, SEARCH, TABLE, SECOND, MEMCPY, READ, ALL };
+
+enum call { CHECK, COPY, SAMPLE };
+
+static const struct calls library = {mdf3_check, mdf3_copy, mdf3_sample, mdf3_physical};
+static const struct calls second = {second_check, second_copy, second_sample, second_physical};
+static const struct calls *const answering[MEMCPY] = {&library, &by_search, &by_table, &second};
+
+struct file {
+    struct shape shape;
+    size_t length, copy; /* of the image, and of its copy */
+    uint8_t *image, *to[READ];
+    uint8_t answer[MEMCPY][MDF3_ANSWER_SIZE];
+};
 
 static volatile uint64_t kept;
-
-struct work {
-    const struct shape *shape;
-    uint8_t *image, *to[ALL];
-    size_t length, copy; /* of one image, and of its copy */
-    uint8_t answer[ALL][32];
-};
 
 static void fail(const char *text)
 {
@@ -40,6 +52,8 @@ static void *memory(size_t length)
     return p;
 }
 
+/* ---- what is measured */
+
 static void plain_read(const uint8_t *image, size_t length)
 {
     uint64_t sum = 0, x;
@@ -50,157 +64,184 @@ static void plain_read(const uint8_t *image, size_t length)
     kept = sum;
 }
 
-/* ---- one round of what is measured */
-
-static uint32_t check_by(enum who who, struct work *w)
+/* The sample is the last channel's in the second record of the last group. */
+static uint32_t answer_by(enum who who, enum call call, struct file *f)
 {
-    uint64_t place = 0;
-    uint32_t number;
-    if (who == LIBRARY)
-        return mdf3_check(w->image, w->length, w->answer[who]);
-    if (who == SECOND)
-        return second_check(w->image, w->length, w->answer[who]);
-    number = plain_check(w->image, w->length, &place);
-    memset(w->answer[who], 0, 32);
-    w->answer[who][0] = (uint8_t)place;
-    return number;
+    const struct calls *by = answering[who];
+    uint8_t *answer = f->answer[who];
+    if (call == CHECK)
+        return by->check(f->image, f->length, answer);
+    if (call == COPY)
+        return by->copy(f->image, f->length, f->to[who], f->copy, answer);
+    return by->sample(f->image, f->length, f->shape.groups - 1, f->shape.channels - 1, 1, answer);
 }
 
-static uint32_t copy_by(enum who who, struct work *w)
-{
-    if (who == LIBRARY)
-        return mdf3_copy(w->image, w->length, w->to[who], w->copy, w->answer[who]);
-    if (who == SECOND)
-        return second_copy(w->image, w->length, w->to[who], w->copy, w->answer[who]);
-    return plain_copy(w->image, w->length, w->to[who], w->copy, w->answer[who]);
-}
-
-/* The second record of the last group, in its last channel. */
-static uint32_t sample_by(enum who who, struct work *w)
-{
-    unsigned group = w->shape->groups - 1, channel = w->shape->channels - 1;
-    if (who == LIBRARY)
-        return mdf3_sample(w->image, w->length, group, channel, 1, w->answer[who]);
-    if (who == SECOND)
-        return second_sample(w->image, w->length, group, channel, 1, w->answer[who]);
-    return plain_sample(w->image, w->length, group, channel, 1, w->answer[who]);
-}
-
-typedef uint32_t call(enum who who, struct work *w);
-
-static void once(call *what, enum who who, struct work *w)
+static void once(enum who who, enum call call, struct file *f)
 {
     if (who == MEMCPY)
-        memcpy(w->to[who], w->image, w->length);
+        memcpy(f->to[who], f->image, f->length);
     else if (who == READ)
-        plain_read(w->image, w->length);
-    else if (what(who, w) != 0)
+        plain_read(f->image, f->length);
+    else if (answer_by(who, call, f) != MDF3_OK)
         fail("refused");
 }
 
-/* ---- rounds */
+/* Seconds for all files, one after the other. */
+static double took(enum who who, enum call call, struct file *files, unsigned count)
+{
+    double start = now();
+    for (unsigned i = 0; i < count; i++)
+        once(who, call, &files[i]);
+    return now() - start;
+}
+
+/* Who does work of that kind in this call: a copy moves all bytes, a check of unsorted data looks into every record. */
+static unsigned measured(enum call call, const struct shape *s, enum who who[ALL])
+{
+    unsigned n = 0;
+    for (enum who w = LIBRARY; w < ALL; w++)
+        if (w < MEMCPY || (w == MEMCPY && call == COPY) || (w == READ && call == CHECK && s->mode > 0))
+            who[n++] = w;
+    return n;
+}
+
+/* ---- turns */
+
+/* What is found there later has been written in this turn. */
+static void wipe(struct file *f, enum call call, int turn)
+{
+    memset(f->answer, turn + 1, sizeof f->answer);
+    for (enum who who = LIBRARY; who < MEMCPY && call == COPY; who++)
+        memset(f->to[who], turn + (int)who, f->copy);
+}
 
 /* All have told the same. */
-static void agree(const struct work *w, int copied)
+static void agree(const struct file *f, enum call call)
 {
-    for (enum who who = PLAIN; who <= SECOND; who++) {
-        if (memcmp(w->answer[LIBRARY], w->answer[who], 32) != 0)
+    for (enum who who = SEARCH; who < MEMCPY; who++) {
+        if (memcmp(f->answer[LIBRARY], f->answer[who], MDF3_ANSWER_SIZE) != 0)
             fail("answers differ");
-        if (copied && memcmp(w->to[LIBRARY], w->to[who], w->copy) != 0)
+        if (call == COPY && memcmp(f->to[LIBRARY], f->to[who], f->copy) != 0)
             fail("copies differ");
     }
 }
 
-/* The best of many turns, in seconds. All take turns, so that a slow spell of the machine meets all of them. */
-static void measure(const char *name, call *what, struct work *w, int turns)
+/* One turn: each goes once over all files, beginning with another one each time. The least times are kept. */
+static void take_turn(int turn, enum call call, struct file *files, double least[ALL])
 {
-    double least[ALL];
-    for (int turn = 0; turn < turns; turn++) {
-        for (enum who who = LIBRARY; who < ALL; who++) {
-            double start = now(), took;
-            for (unsigned file = 0; file < w->shape->files; file++)
-                once(what, who, w);
-            took = now() - start;
-            if (turn == 0 || took < least[who])
-                least[who] = took;
-        }
-        agree(w, what == copy_by);
-        memset(w->to[LIBRARY], turn, w->copy);
+    enum who who[ALL];
+    unsigned count = files->shape.files, n = measured(call, &files->shape, who);
+    for (unsigned i = 0; i < count; i++)
+        wipe(&files[i], call, turn);
+    for (unsigned i = 0; i < n; i++) {
+        enum who next = who[((unsigned)turn + i) % n];
+        double time = took(next, call, files, count);
+        if (turn == 0 || time < least[next])
+            least[next] = time;
     }
-    printf("| %s | %s | %.2f ms | %.2f | %.2f | %.2f | %.2f |\n", w->shape->name, name, least[LIBRARY] * 1e3,
-           least[LIBRARY] / least[MEMCPY], least[LIBRARY] / least[READ], least[LIBRARY] / least[PLAIN],
-           least[LIBRARY] / least[SECOND]);
+    for (unsigned i = 0; i < count; i++)
+        agree(&files[i], call);
+}
+
+/* ---- the table */
+
+/* A cell; nothing was measured where a time is 0. */
+static void ratio(double time, double to)
+{
+    if (to > 0)
+        printf(" %.*f |", time < 100 * to ? 2 : 0, time / to);
+    else
+        printf(" – |");
+}
+
+static void row(const char *file, enum call call, const double least[ALL])
+{
+    static const char *const names[] = {"check", "copy", "sample"};
+    double time = least[LIBRARY];
+    printf("| %s | %s | %.*f ms |", file, names[call], time < 1e-3 ? 3 : 2, time * 1e3);
+    ratio(time, least[MEMCPY]);
+    ratio(time, least[READ]);
+    ratio(time, least[SEARCH]);
+    ratio(time, least[TABLE]);
+    ratio(time, least[SECOND]);
+    printf("\n");
     fflush(stdout);
 }
 
 /* How long the copy is: one into no room tells. */
-static size_t needed(const struct work *w)
+static size_t needed(const struct file *f)
 {
-    uint8_t answer[32], none;
-    size_t length = 0;
-    if (mdf3_copy(w->image, w->length, &none, 0, answer) != 13)
+    uint8_t answer[MDF3_ANSWER_SIZE], none;
+    if (mdf3_copy(f->image, f->length, &none, 0, answer) != MDF3_NO_ROOM)
         fail("no length needed");
-    for (int i = 7; i >= 0; i--)
-        length = length * 256 + answer[i];
-    return length;
+    return (size_t)mdf3_place(answer);
 }
 
-static void bench(const struct shape *s, int turns)
+static void open_file(struct file *f, const struct shape *s, unsigned number)
 {
-    struct work w;
-    w.shape = s;
-    w.image = memory(s->room);
-    w.length = made(w.image, s);
-    w.copy = needed(&w);
-    for (enum who who = LIBRARY; who < ALL; who++)
-        w.to[who] = memory(w.copy > w.length ? w.copy : w.length);
-    measure("check", check_by, &w, turns);
-    measure("copy", copy_by, &w, turns);
-    measure("sample", sample_by, &w, turns);
-    for (enum who who = LIBRARY; who < ALL; who++)
-        free(w.to[who]);
-    free(w.image);
+    f->shape = s->files > 1 ? varied(s, number) : *s;
+    f->image = memory(f->shape.room);
+    f->length = made(f->image, &f->shape, number);
+    f->copy = needed(f);
+    for (enum who who = LIBRARY; who < READ; who++)
+        f->to[who] = memory(f->copy > f->length ? f->copy : f->length);
 }
 
-static void all(const struct shape *shapes, size_t count, int turns)
+static void close_file(struct file *f)
 {
-    for (size_t i = 0; i < count; i++)
-        bench(&shapes[i], turns);
+    free(f->image);
+    for (enum who who = LIBRARY; who < READ; who++)
+        free(f->to[who]);
 }
+
+static void bench(const struct shape *s)
+{
+    struct file *files = memory(s->files * sizeof *files);
+    for (unsigned i = 0; i < s->files; i++)
+        open_file(&files[i], s, i);
+    for (enum call call = CHECK; call <= SAMPLE; call++) {
+        double least[ALL] = {0};
+        for (int turn = 0; turn < TURNS; turn++)
+            take_turn(turn, call, files, least);
+        row(s->name, call, least);
+    }
+    for (unsigned i = 0; i < s->files; i++)
+        close_file(&files[i]);
+    free(files);
+}
+
+static const struct shape shapes[] = {
+    {"64 MB sorted", 64u << 20, 0, 1, 4, 16, 16, 1, 0},
+    {"64 MB unsorted, 8 groups", 64u << 20, 1, 8, 4, 8, 64, 1, 0},
+    {"64 MB unsorted, 8 groups, random order", 64u << 20, 1, 8, 4, 8, 64, 1, 1},
+    {"64 MB unsorted, 40 groups", 64u << 20, 1, 40, 4, 8, 64, 1, 0},
+    {"64 MB unsorted, 40 groups, random order", 64u << 20, 1, 40, 4, 8, 64, 1, 1},
+    {"16,000 channels", 4u << 20, 0, 1, 16000, 64, 64, 1, 0},
+    {"2,000 files of 30 KB", 30u << 10, 1, 3, 4, 8, 20, 2000, 0},
+    /* fewer records, and two ID bytes */
+    {"4 MB unsorted, 8 groups", 4u << 20, 1, 8, 4, 8, 64, 1, 0},
+    {"4 MB unsorted, 40 groups", 4u << 20, 1, 40, 4, 8, 64, 1, 0},
+    {"16 MB unsorted, 8 groups, mode 2", 16u << 20, 2, 8, 4, 8, 64, 1, 0},
+    /* more and more groups */
+    {"16 MB unsorted, 1 group", 16u << 20, 1, 1, 4, 36, 36, 1, 0},
+    {"16 MB unsorted, 8 groups", 16u << 20, 1, 8, 4, 8, 64, 1, 0},
+    {"16 MB unsorted, 8 groups, random order", 16u << 20, 1, 8, 4, 8, 64, 1, 1},
+    {"16 MB unsorted, 40 groups", 16u << 20, 1, 40, 4, 8, 64, 1, 0},
+    {"16 MB unsorted, 40 groups, random order", 16u << 20, 1, 40, 4, 8, 64, 1, 1},
+    {"16 MB unsorted, 160 groups", 16u << 20, 1, 160, 4, 8, 64, 1, 0},
+    {"16 MB unsorted, 160 groups, random order", 16u << 20, 1, 160, 4, 8, 64, 1, 1},
+    {"16 MB unsorted, 256 groups", 16u << 20, 1, 256, 4, 8, 64, 1, 0},
+    {"16 MB unsorted, 256 groups, random order", 16u << 20, 1, 256, 4, 8, 64, 1, 1},
+    /* fewer channels */
+    {"1,000 channels", 1u << 20, 0, 1, 1000, 64, 64, 1, 0},
+    {"4,000 channels", 1u << 20, 0, 1, 4000, 64, 64, 1, 0},
+};
 
 int main(void)
 {
-    static const struct shape main_shapes[] = {
-        {"64 MB sorted", 64u << 20, 0, 1, 4, 16, 16, 1, 0},
-        {"64 MB unsorted, 8 groups", 64u << 20, 1, 8, 4, 8, 64, 1, 0},
-        {"64 MB unsorted, 40 groups", 64u << 20, 1, 40, 4, 8, 64, 1, 0},
-        {"16,000 channels", 4u << 20, 0, 1, 16000, 64, 64, 1, 0},
-        {"2,000 files of 30 KB", 30u << 10, 1, 3, 4, 8, 20, 2000, 0},
-    };
-    static const struct shape records[] = {
-        {"4 MB unsorted, 8 groups", 4u << 20, 1, 8, 4, 8, 64, 1, 0},
-        {"4 MB unsorted, 40 groups", 4u << 20, 1, 40, 4, 8, 64, 1, 0},
-        {"16 MB unsorted, 8 groups, mode 2", 16u << 20, 2, 8, 4, 8, 64, 1, 0},
-    };
-    static const struct shape groups[] = {
-        {"16 MB unsorted, 1 group", 16u << 20, 1, 1, 4, 36, 36, 1, 0},
-        {"16 MB unsorted, 8 groups", 16u << 20, 1, 8, 4, 8, 64, 1, 0},
-        {"16 MB unsorted, 8 groups, random order", 16u << 20, 1, 8, 4, 8, 64, 1, 1},
-        {"16 MB unsorted, 40 groups", 16u << 20, 1, 40, 4, 8, 64, 1, 0},
-        {"16 MB unsorted, 40 groups, random order", 16u << 20, 1, 40, 4, 8, 64, 1, 1},
-        {"16 MB unsorted, 160 groups", 16u << 20, 1, 160, 4, 8, 64, 1, 0},
-        {"16 MB unsorted, 160 groups, random order", 16u << 20, 1, 160, 4, 8, 64, 1, 1},
-        {"16 MB unsorted, 256 groups", 16u << 20, 1, 256, 4, 8, 64, 1, 0},
-        {"16 MB unsorted, 256 groups, random order", 16u << 20, 1, 256, 4, 8, 64, 1, 1},
-    };
-    static const struct shape channels[] = {
-        {"1,000 channels", 1u << 20, 0, 1, 1000, 64, 64, 1, 0},
-        {"4,000 channels", 1u << 20, 0, 1, 4000, 64, 64, 1, 0},
-    };
-    printf("| file | call | time | to memcpy | to a plain read | to plain C | to the second program |\n|---|---|---|---|---|---|---|\n");
-    all(main_shapes, sizeof main_shapes / sizeof main_shapes[0], 9);
-    all(records, sizeof records / sizeof records[0], 9);
-    all(groups, sizeof groups / sizeof groups[0], 9);
-    all(channels, sizeof channels / sizeof channels[0], 9);
+    printf("| file | call | time | to memcpy | to a plain read | to plain C, searching | to plain C, table |"
+           " to the second program |\n|---|---|---|---|---|---|---|---|\n");
+    for (size_t i = 0; i < sizeof shapes / sizeof shapes[0]; i++)
+        bench(&shapes[i]);
     return 0;
 }

@@ -43,26 +43,38 @@ static size_t group(uint8_t *image, size_t *end, size_t link, const struct shape
     return cg;
 }
 
-/* The group of the next record: in turn, or by a linear congruential generator. */
+/* The next number of a row that looks random (splitmix64). */
+static uint64_t chance(uint64_t *state)
+{
+    uint64_t x = *state += 0x9E3779B97F4A7C15u;
+    x = (x ^ x >> 30) * 0xBF58476D1CE4E5B9u;
+    x = (x ^ x >> 27) * 0x94D049BB133111EBu;
+    return x ^ x >> 31;
+}
+
+/* Bytes that differ, so that a record in a wrong place shows. */
+static void fill(uint8_t *record, unsigned size, uint64_t *state)
+{
+    for (; size > 8; size -= 8, record += 8)
+        put(record, 0, chance(state), 8);
+    put(record, 0, chance(state), (int)size);
+}
+
+/* The group of the next record. */
 static unsigned next_group(const struct shape *s, unsigned g, uint64_t *state)
 {
-    if (!s->random)
-        return (g + 1) % s->groups;
-    *state = *state * 6364136223846793005u + 1442695040888963407u;
-    return (unsigned)((*state >> 33) % s->groups);
+    return (unsigned)((s->random ? chance(state) : g + 1) % s->groups);
 }
 
 /* Records of all groups, as long as there is room. */
-static void records(uint8_t *image, size_t *end, const struct shape *s, const size_t *cg)
+static void records(uint8_t *image, size_t *end, const struct shape *s, const size_t *cg, uint64_t state)
 {
     uint32_t counts[256] = {0};
-    uint64_t state = 1;
     for (unsigned g = 0; s->room - *end >= size_of(s, g) + s->mode; g = next_group(s, g, &state)) {
         unsigned size = size_of(s, g);
         if (s->mode > 0)
             image[*end] = (uint8_t)g;
-        /* records that differ, so that one in a wrong place shows */
-        put(image, *end + (s->mode > 0), *end * 2654435761u, 8);
+        fill(image + *end + (s->mode > 0), size, &state);
         if (s->mode > 1)
             image[*end + 1 + size] = (uint8_t)g;
         *end += size + s->mode;
@@ -72,7 +84,7 @@ static void records(uint8_t *image, size_t *end, const struct shape *s, const si
         put(image, cg[g] + 22, counts[g], 4);
 }
 
-size_t made(uint8_t *image, const struct shape *s)
+size_t made(uint8_t *image, const struct shape *s, uint64_t seed)
 {
     size_t cg[256], end = 64, hd, dg, link;
     memset(image, 0, s->room);
@@ -88,8 +100,20 @@ size_t made(uint8_t *image, const struct shape *s)
         link = cg[g] + 4;
     }
     put(image, dg + 16, end, 4);
-    records(image, &end, s, cg);
+    records(image, &end, s, cg, seed);
     return end;
+}
+
+struct shape varied(const struct shape *s, uint64_t seed)
+{
+    struct shape v = *s;
+    v.room = s->room * 9 / 10 + chance(&seed) % (s->room / 5);
+    v.groups = s->groups - 1 + (unsigned)(chance(&seed) % 3);
+    v.channels = s->channels - 1 + (unsigned)(chance(&seed) % 3);
+    v.least = s->least + (unsigned)(chance(&seed) % 5);
+    v.most = s->most - 4 + (unsigned)(chance(&seed) % 9);
+    v.random = (int)(chance(&seed) % 2);
+    return v;
 }
 
 double now(void)

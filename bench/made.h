@@ -12,12 +12,15 @@ struct shape {
     unsigned groups;   /* their records are from least to most bytes long */
     unsigned channels; /* of each group */
     unsigned least, most;
-    unsigned files; /* so many of them, one after the other */
+    unsigned files; /* so many of them; more than one differ from each other */
     int random;     /* the records of all groups come in random order, else in turn */
 };
 
-/* Makes a file; its length. The data are filled up with records of all groups, the same at every call. */
-size_t made(uint8_t *image, const struct shape *s);
+/* A shape with a little more or less of everything, and the records in either order; the same for the same seed. */
+struct shape varied(const struct shape *s, uint64_t seed);
+
+/* Makes a file; its length. The data are filled up with records of all groups; seeds give other bytes and another order. */
+size_t made(uint8_t *image, const struct shape *s, uint64_t seed);
 
 /* Seconds. */
 double now(void);

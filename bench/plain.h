@@ -1,20 +1,24 @@
-/* Check, copy and samples in plain C, to compare times with: no proof, the same answers. */
+/* Check, copy and samples in plain C, to compare answers and times with: no proof, the same answers. Two come of one source:
+ *   - by_search goes about it as the library does: a check searches the groups of a data group one after the other for the ID
+ *     of each record, and goes over sorted data record by record;
+ *   - by_table is written for speed: a check looks the ID up in a table of 256, and sorted data take it one division.
+ * Both copies look IDs up in a table. */
 #ifndef PLAIN_H
 #define PLAIN_H
 
 #include <stddef.h>
 #include <stdint.h>
 
-/* The number; the place goes to *place. */
-unsigned plain_check(const uint8_t *image, size_t length, uint64_t *place);
+/* As mdf3_check, mdf3_copy, mdf3_sample and mdf3_physical. */
+struct calls {
+    uint32_t (*check)(const uint8_t *image, size_t image_len, uint8_t answer[32]);
+    uint32_t (*copy)(const uint8_t *image, size_t image_len, uint8_t *out, size_t out_len, uint8_t answer[32]);
+    uint32_t (*sample)(const uint8_t *image, size_t image_len, uint64_t group, uint64_t channel, uint64_t record,
+                       uint8_t answer[32]);
+    uint32_t (*physical)(const uint8_t *image, size_t image_len, uint64_t group, uint64_t channel, uint64_t record,
+                         uint8_t answer[32]);
+};
 
-/* As mdf3_copy. */
-uint32_t plain_copy(const uint8_t *image, size_t image_len, uint8_t *out, size_t out_len, uint8_t answer[32]);
-
-/* As mdf3_sample and mdf3_physical. */
-uint32_t plain_sample(const uint8_t *image, size_t image_len, uint64_t group, uint64_t channel, uint64_t record,
-                      uint8_t answer[32]);
-uint32_t plain_physical(const uint8_t *image, size_t image_len, uint64_t group, uint64_t channel, uint64_t record,
-                        uint8_t answer[32]);
+extern const struct calls by_search, by_table;
 
 #endif

@@ -1,0 +1,2 @@
+#define BY_TABLE
+#include "plain.c"
