@@ -17,7 +17,7 @@ use Rattle.spec.specs.Walk.{fieldsPass, formulaPasses, conversionAt, cha
 use Rattle.spec.specs.Canonical.{channelLength, copyLength, channelBytes, channelsBytes, groupBytes, groupsBytes, canonicalCopy}
 use Rattle.spec.specs.Sample.{pattern, storedAs, storedSample, signedOf, rawValue, partOf, numberOf, linear, converted, physicalValue}
 use Rattle.spec.specs.Call.{checkOutcome, copying, copyOutcome, asking, sampling, sampleOutcome, rawOutcome, partOutcome, physicalOutcome, programming, programOutcome, programOutput}
-use Rattle.spec.specs.Example.{Agree, marked, MarkedExamplesAgree, checks, others, edges, OwnExamplesAgree, SmallExamplesAgree, AbsentIsNotEmpty, MovedRecordIsSeen}
+use Rattle.spec.specs.Example.{Agree, marked, MarkedExamplesAgree, checks, others, edges, clauses, OwnExamplesAgree, SmallExamplesAgree, AbsentIsNotEmpty, MovedRecordIsSeen}
 
 pub marked-examples-agree : MarkedExamplesAgree
 unfolding marked field _>>=_ require present opening openBlock bodyAt readHd writeHd readDg writeDg readCg writeCg readCn writeCn inOrder byID logFrom logOf readingOf fieldsPass formulaPasses conversionAt channelAt channelList groupList dataGroupList fileFrom identPasses walk reads channelLength copyLength channelBytes channelsBytes groupBytes groupsBytes canonicalCopy pattern storedAs storedSample signedOf rawValue checkOutcome copying copyOutcome asking sampling rawOutcome
@@ -35,12 +35,16 @@ own-edges : Agree edges
 unfolding edges field _>>=_ require present opening openBlock bodyAt readHd writeHd readDg writeDg readCg writeCg readCn writeCn inOrder byID logFrom logOf readingOf fieldsPass formulaPasses conversionAt channelAt channelList groupList dataGroupList fileFrom identPasses walk reads channelLength copyLength channelBytes channelsBytes groupBytes groupsBytes canonicalCopy pattern storedAs storedSample signedOf rawValue checkOutcome copying copyOutcome asking sampling rawOutcome partOf numberOf linear converted physicalValue partOutcome physicalOutcome programming programOutput ofBits ofInt add mul
 own-edges = refl
 
+own-clauses : Agree clauses
+unfolding clauses field _>>=_ require present opening openBlock bodyAt readHd writeHd readDg writeDg readCg writeCg readCn writeCn inOrder byID logFrom logOf readingOf fieldsPass formulaPasses conversionAt channelAt channelList groupList dataGroupList fileFrom identPasses walk reads channelLength copyLength channelBytes channelsBytes groupBytes groupsBytes canonicalCopy pattern storedAs storedSample signedOf rawValue checkOutcome copying copyOutcome asking sampling rawOutcome partOf numberOf linear converted physicalValue partOutcome physicalOutcome programming programOutput ofBits ofInt add mul
+own-clauses = refl
+
 pub own-examples-agree : OwnExamplesAgree
-own-examples-agree = (own-checks, own-others, own-edges)
+own-examples-agree = (own-checks, own-others, own-edges, own-clauses)
 
 pub small-examples-agree : SmallExamplesAgree
 unfolding sampleOutcome programOutcome field _>>=_ require present opening openBlock bodyAt readHd writeHd readDg writeDg readCg writeCg readCn writeCn inOrder byID logFrom logOf readingOf fieldsPass formulaPasses conversionAt channelAt channelList groupList dataGroupList fileFrom identPasses walk reads channelLength copyLength channelBytes channelsBytes groupBytes groupsBytes canonicalCopy pattern storedAs storedSample signedOf rawValue checkOutcome copying copyOutcome asking sampling rawOutcome partOf numberOf linear converted physicalValue partOutcome physicalOutcome programming programOutput ofBits ofInt add mul
-small-examples-agree = (refl, refl, refl, refl, refl, refl, refl, refl, refl, refl)
+small-examples-agree = (refl, refl, refl, refl, refl, refl, refl, refl, refl, refl, refl, refl, refl, refl)
 
 -- ---- readings that differ
 

@@ -10,10 +10,10 @@ use lib.ListN.{length, take, drop, replicate}
 use lib.IntN.{pos, negsuc}
 use lib.Ieee.{Float, nan, inf, fin}
 use Rattle.spec.specs.Bytes.{bytesOf, join}
-use Rattle.spec.specs.Answer.{Answer, refused, accepted, mapAnswer}
+use Rattle.spec.specs.Answer.{Answer, refused, accepted, mapAnswer, passed}
 use Rattle.spec.specs.Block.{imageOf}
 use Rattle.spec.specs.Reading.{Group, Reading}
-use Rattle.spec.specs.Walk.{channelList, groupList, reads}
+use Rattle.spec.specs.Walk.{channelList, groupList, dataGroupList, most, reads}
 use Rattle.spec.specs.Sample.{part, Raw, natural, integer, float32, float64, bytesAt}
 use Rattle.spec.specs.Call.{Outcome, CopyOutcome, checkOutcome, copyOutcome, sampleOutcome, rawOutcome, partOutcome, physicalOutcome, programOutcome, decimal, programOutput}
 
@@ -525,10 +525,104 @@ edges =
     ∷ prints overText (49 ∷ 51 ∷ 32 ∷ 51 ∷ 50 ∷ 55 ∷ 54 ∷ 57 ∷ 10 ∷ [])
     ∷ []
 
-abbrev pub OwnExamplesAgree : Type 0
-OwnExamplesAgree = Agree checks × Agree others × Agree edges
+-- a block with more bytes behind its known fields
+abbrev pub longer : List ℕ → List ℕ → List ℕ
+longer block more = take 2 block ++ (bytesOf 2 (length block + length more) ++ (drop 4 block ++ more))
 
--- what the tables have no row for: samples of a later group and record, the function under the program, the limits of 7 at their end, numbers as bytes
+-- a CN block, its next link set to this
+abbrev pub linked : ℕ → List ℕ → List ℕ
+linked next cn = take 4 cn ++ (bytesOf 4 next ++ drop 8 cn)
+
+-- one group, one channel, one record, and 0 in each of the three counts that are not read
+abbrev pub uncounted : List ℕ
+uncounted =
+    join (id300 ∷ hdBlock 228 0 0 0 ∷ dgBlock 0 256 0 514 0 0 ∷ cgBlock 0 286 0 0 0 1 1 0 ∷ signal 0 8 0 ∷ (65 ∷ []) ∷ [])
+
+-- next, comment, long name, display name
+abbrev pub named : ℕ → ℕ → ℕ → ℕ → List ℕ
+named next comment long display =
+    linked next (cnBlock (links4 0 0 0 comment) 0 0 8 0 (join (bytesOf 4 long ∷ bytesOf 4 display ∷ bytesOf 2 0 ∷ [])))
+
+-- two channels, the first of 8 bits with three texts, the second of 16 bits. In the image the second and the texts stand before the first, the texts the other way round
+abbrev pub twoChannels : List ℕ
+twoChannels =
+    join
+    (id300
+    ∷ hdBlock 228 0 0 1
+    ∷ dgBlock 0 256 0 0 1 0
+    ∷ cgBlock 0 532 0 0 1 2 0 0
+    ∷ signal 0 16 0
+    ∷ text (99 ∷ 99 ∷ 99 ∷ [])
+    ∷ text (98 ∷ 98 ∷ [])
+    ∷ text (97 ∷ [])
+    ∷ named 286 527 521 514
+    ∷ [])
+
+abbrev pub twoChannelsCopy : List ℕ
+twoChannelsCopy =
+    join
+    (id300
+    ∷ hdBlock 228 0 0 1
+    ∷ dgBlock 0 256 0 0 1 0
+    ∷ cgBlock 0 286 0 0 2 2 0 0
+    ∷ named 532 514 519 525
+    ∷ text (97 ∷ [])
+    ∷ text (98 ∷ 98 ∷ [])
+    ∷ text (99 ∷ 99 ∷ 99 ∷ [])
+    ∷ signal 0 16 0
+    ∷ [])
+
+-- the 64-bit float -0.0
+abbrev pub f64-minus-zero : List ℕ
+f64-minus-zero = bytesOf 8 0x8000000000000000
+
+-- two data groups with one channel group, and so one channel, in common
+abbrev pub sharedGroup : List ℕ
+sharedGroup =
+    join (id300 ∷ hdBlock 228 0 0 2 ∷ dgBlock 256 284 0 0 1 0 ∷ dgBlock 0 284 0 0 1 0 ∷ cgBlock 0 314 0 0 1 1 0 0 ∷ signal 0 8 0 ∷ [])
+
+-- rows for single clauses, each named by its section of docs/RULES.md
+unfoldable pub clauses : List Example
+clauses =
+    -- 2.3: what a block has beyond its known fields is passed over
+    checked (oneDataGroup (longer (dgBlock 0 0 0 0 0 0) (1 ∷ 1 ∷ [])) []) 0 0
+    ∷ checked (oneChannelGroup 0 (longer (cgBlock 0 0 0 0 0 0 0 0) (1 ∷ 1 ∷ [])) []) 0 0
+    ∷ checked (oneChannel (longer (signal 0 16 0) (1 ∷ 1 ∷ [])) []) 0 0
+    ∷ copies (hd320 210 (counting 1 46)) (room 272) (record { given = success 272; memory = hd320 208 (counting 1 44) })
+    -- 2.3: a field that the size does not hold whole is taken as zeros. HD 164 and 176
+    ∷ copies (hd320 171 (counting 1 7)) (room 272) (record { given = success 272; memory = hd320 208 (zeros 44) })
+    ∷ copies (hd320 207 (counting 1 43)) (room 272) (record { given = success 272; memory = hd320 208 (counting 1 12 ++ zeros 32) })
+    -- 2.3: the same of CN 218, 222 and 226, long name, display name and added byte offset
+    ∷ checked (oneChannel (cut 221 (cnBlock (zeros 16) 0 0 16 0 (bytesOf 4 1 ++ zeros 6))) (zeros 20)) 0 0
+    ∷ checked (oneChannel (cut 222 (cnBlock (zeros 16) 0 0 16 0 (bytesOf 4 1 ++ zeros 6))) (zeros 20)) 5 504
+    ∷ checked (oneChannel (cut 225 (cnBlock (zeros 16) 0 0 16 0 (zeros 4 ++ bytesOf 4 1 ++ zeros 2))) (zeros 20)) 0 0
+    ∷ checked (oneChannel (cut 226 (cnBlock (zeros 16) 0 0 16 0 (zeros 4 ++ bytesOf 4 1 ++ zeros 2))) (zeros 20)) 5 508
+    ∷ checked (oneChannel (cut 227 (cnBlock (zeros 16) 0 0 16 0 (zeros 8 ++ bytesOf 2 1))) (zeros 20)) 0 0
+    -- 2.5: the counts are never read, and written right
+    ∷ copies uncounted (room 515) (record { given = success 515; memory = oneRecord 1 0 8 0 (65 ∷ []) })
+    -- 3.2, 3.3, 4.1: channels in link order, each with its own comment, long name and display name
+    ∷ copies twoChannels (room 760) (record { given = success 760; memory = twoChannelsCopy })
+    -- 3.6, 4.2: in mode 0 the record ID counts for nothing, and 0 is written
+    ∷ copies (oneChannelGroup 0 (cgBlock 0 0 0 5 0 1 1 0) (zeros 228 ++ (65 ∷ []))) (room 287) (record { given = success 287; memory = join (id300 ∷ hdBlock 228 0 0 1 ∷ dgBlock 0 256 0 286 1 0 ∷ cgBlock 0 0 0 0 0 1 1 0 ∷ (65 ∷ []) ∷ []) })
+    -- 5.1, number 6: a trigger, sample reduction or CD link that is not nil, whichever of its bytes is not 0
+    ∷ checked (oneDataGroup (dgBlock 0 0 65536 0 0 0) []) 6 240
+    ∷ checked (oneChannelGroup 0 (cgBlock 0 0 0 0 0 0 0 65536) []) 6 282
+    ∷ checked (oneChannel (cnBlock (links4 0 0 65536 0) 0 0 16 0 (zeros 10)) []) 6 302
+    -- 5.1, number 8: the ID of any earlier group of the data group, here 7, 8 and 7
+    ∷ checked (oneDataGroup (dgBlock 0 256 0 0 3 1) (join (cgBlock 286 0 0 7 0 0 0 0 ∷ cgBlock 316 0 0 8 0 0 0 0 ∷ cgBlock 0 0 0 7 0 0 0 0 ∷ []))) 8 332
+    -- 5.1, number 9: the added byte offset is a number of two bytes, here 256
+    ∷ checked (oneChannel (cnBlock (zeros 16) 0 0 8 0 (zeros 8 ++ bytesOf 2 256)) []) 9 472
+    -- 6.5: without CC, or with formula 65535, the number itself; the limit of 9,007,199,254,740,992 is one of integers alone
+    ∷ converts (oneRecord 8 0 64 3 f64-minus-zero) (success (fin true 0 (pos 0)))
+    ∷ converts (withConversion 64 3 f64-minus-zero (conversion 65535 (zeros 2))) (success (fin true 0 (pos 0)))
+    ∷ converts (oneRecord 8 0 64 3 f64-most) (success (fin false 9007199254740991 (pos 971)))
+    ∷ []
+
+abbrev pub OwnExamplesAgree : Type 0
+OwnExamplesAgree = Agree checks × Agree others × Agree edges × Agree clauses
+
+-- what the tables have no row for: samples of a later group and record, the function under the program, numbers as bytes, the limits of 7 at their end, the limit of 1 and 12
+-- Where a file may have one channel, the second is refused also in a later group or data group.
 abbrev pub SmallExamplesAgree : Type 0
 SmallExamplesAgree =
     (sampleOutcome (grid 8 7) 1 0 1 ≡ success (part 551 1))
@@ -541,6 +635,10 @@ SmallExamplesAgree =
     × (bytesOf 4 0x01020304 ≡ 4 ∷ 3 ∷ 2 ∷ 1 ∷ [])
     × (groupList (imageOf []) 0 9 0 (1 ∷ []) 260 (some 1) ≡ refused 7 260)
     × (channelList (imageOf []) 0 9 264 (some 1) ≡ refused 7 264)
+    × (dataGroupList (imageOf (grid 8 0)) 1 2 1 68 (some 228) ≡ refused 7 294)
+    × (dataGroupList (imageOf sharedGroup) 2 2 1 68 (some 228) ≡ refused 7 292)
+    × (passed (dataGroupList (imageOf sharedGroup) 2 2 2 68 (some 228)) ≡ accepted tt)
+    × (most ≡ 2147483647)
 
 -- ---- readings that differ
 
