@@ -107,12 +107,14 @@ static unsigned measured(enum call call, const struct shape *s, enum who who[ALL
 
 /* ---- turns */
 
-/* What is found there later has been written in this turn. */
+/* What is found there later has been written in this turn. Another output is the last one wiped each time. */
 static void wipe(struct file *f, enum call call, int turn)
 {
     memset(f->answer, turn + 1, sizeof f->answer);
-    for (enum who who = LIBRARY; who < MEMCPY && call == COPY; who++)
-        memset(f->to[who], turn + (int)who, f->copy);
+    for (int i = 0; i < (int)READ && call == COPY; i++) {
+        int who = (turn + i) % (int)READ;
+        memset(f->to[who], turn + who, f->copy);
+    }
 }
 
 /* All have told the same. */

@@ -95,7 +95,9 @@ def trouble(what):
 def tell(line):
     try:
         os.fstat(1)
-        print(line, flush=True)
+        # names of files may be any bytes
+        sys.stdout.buffer.write(os.fsencode(line + "\n"))
+        sys.stdout.flush()
     except OSError:
         # nothing is left to be written at the end
         os.dup2(os.open(os.devnull, os.O_WRONLY), 1)
@@ -118,7 +120,7 @@ def main():
     except Refused as refused:
         tell("%s: refused, %d at %d" % ((name,) + refused.args))
         sys.exit(1)
-    except OSError:
+    except (OSError, AttributeError):
         trouble("%s: cannot be loaded" % path)
     except MemoryError:
         trouble("%s: no memory for its copy" % name)

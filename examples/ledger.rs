@@ -32,8 +32,12 @@ const OK: u32 = 0;
 const NO_ROOM: u32 = 13;
 const NO_SUCH: u32 = 14;
 
-/// A refusal: number and place.
-struct Refused(u32, u64);
+/// Why there is no line to post: refused with number and place, or no memory for the copy.
+enum Failed {
+    Refused(u32, u64),
+    NoMemory,
+}
+use Failed::{NoMemory, Refused};
 
 type Answer = [u8; 32];
 
@@ -47,7 +51,7 @@ fn ask(call: impl FnOnce(*mut u8) -> u32) -> (u32, Answer) {
     (call(answer.as_mut_ptr()), answer)
 }
 
-fn check(image: &[u8]) -> Result<(), Refused> {
+fn check(image: &[u8]) -> Result<(), Failed> {
     // SAFETY: image and answer are lent for the call, with their lengths.
     let (number, answer) = ask(|a| unsafe { mdf3_check(image.as_ptr(), image.len(), a) });
     if number == OK { Ok(()) } else { Err(Refused(number, number_at(&answer, 0))) }
@@ -59,20 +63,23 @@ fn copy_into(image: &[u8], out: &mut [u8]) -> (u32, Answer) {
     ask(|a| unsafe { mdf3_copy(image.as_ptr(), image.len(), to, room, a) })
 }
 
-fn copy(image: &[u8]) -> Result<Vec<u8>, Refused> {
+fn copy(image: &[u8]) -> Result<Vec<u8>, Failed> {
     // With no room, an image that can be copied gives the length needed.
     let (number, answer) = copy_into(image, &mut []);
     if number != NO_ROOM {
         return Err(Refused(number, number_at(&answer, 0)));
     }
-    let mut out = vec![0; number_at(&answer, 0) as usize];
+    let length = number_at(&answer, 0) as usize;
+    let mut out = Vec::new();
+    out.try_reserve_exact(length).map_err(|_| NoMemory)?;
+    out.resize(length, 0);
     match copy_into(image, &mut out) {
         (OK, _) => Ok(out),
         (number, answer) => Err(Refused(number, number_at(&answer, 0))),
     }
 }
 
-fn physical(image: &[u8], group: u64, channel: u64, record: u64) -> Result<f64, Refused> {
+fn physical(image: &[u8], group: u64, channel: u64, record: u64) -> Result<f64, Failed> {
     // SAFETY: as for the check.
     let (number, answer) =
         ask(|a| unsafe { mdf3_physical(image.as_ptr(), image.len(), group, channel, record, a) });
@@ -83,7 +90,7 @@ fn physical(image: &[u8], group: u64, channel: u64, record: u64) -> Result<f64, 
 }
 
 /// How many records there are, and their values added up.
-fn post(image: &[u8], group: u64, channel: u64) -> Result<(u64, f64), Refused> {
+fn post(image: &[u8], group: u64, channel: u64) -> Result<(u64, f64), Failed> {
     check(image)?;
     let kept = copy(image)?;
     let (mut count, mut total) = (0, 0.0);
@@ -139,6 +146,9 @@ fn main() -> ExitCode {
     match post(&image, group, channel) {
         Ok((_, total)) if !total.is_finite() => trouble(&format!("{name}: the total is too large")),
         Ok((count, total)) => tell(&format!("{name}: {count} records, total {total:.2}"), 0),
-        Err(Refused(number, place)) => tell(&format!("{name}: refused, {number} at {place}"), 1),
+        Err(Refused(number, place)) => {
+            tell(&format!("{name}: refused, {number} at {place}"), 1)
+        }
+        Err(NoMemory) => trouble(&format!("{name}: no memory for its copy")),
     }
 }

@@ -26,7 +26,7 @@
  *     to zero, which -ffast-math sets) and traps nothing.
  * Less than 16 KB of stack is used.
  *
- * The archive is built for x86-64 Linux.
+ * The header is C99 and C++; the libraries are built for x86-64 Linux.
  */
 #ifndef MDF3_H
 #define MDF3_H
@@ -45,7 +45,7 @@ extern "C" {
 
 /* The numbers that calls return. With each the answer holds one place, which
  * is an offset in the image except where another meaning is given. The first
- * fault in the order of section 5.2 of the rules (docs/RULES.md in the source)
+ * fault in the order of section 5.2 of the rules (share/doc/mdf3/RULES.md)
  * decides, and there is never more than one. Check gives 0 to 11, copy 0 to
  * 13, a sample 0 to 11, 14 and 15, a physical value these and 16. */
 
@@ -189,8 +189,8 @@ uint32_t mdf3_check(const uint8_t *image, size_t image_len, uint8_t answer[MDF3_
  * image has, since what is shared there is written once for every use.
  *
  * Two images have equal copies, byte for byte, exactly when they say the
- * same, whatever their layout: so a copy that is there already shows a file
- * that came before. Groups, channels and records have the same numbers in the
+ * same, whatever their layout: so a file that says what an earlier one said is
+ * known by its copy. Groups, channels and records have the same numbers in the
  * copy as in the image, and the same content; only places differ.
  *
  * In a copy DG, CG and CN blocks have 28, 30 and 228 bytes, so that all their

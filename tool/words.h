@@ -16,8 +16,8 @@ void print_text(FILE *to, const uint8_t *text, size_t length);
 /* The same between quotation marks; a backslash stands before those in the text, and before a backslash. */
 void print_quoted(FILE *to, const uint8_t *text, size_t length);
 
-/* Prints the name of a file, so that it can't break a line or steer a terminal, nor look like another: characters for control
- * and format, separators of lines and paragraphs, and what is not UTF-8 as \xHH, a backslash doubled. */
+/* Prints the name of a file, so that it can't break a line or steer a terminal that reads UTF-8: characters for control and
+ * format, separators of lines and paragraphs, and what is not UTF-8 as \xHH, a backslash doubled. */
 void print_name(FILE *to, const char *name);
 
 /* "s" behind a count that is not 1. */
