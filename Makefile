@@ -65,7 +65,7 @@ test check:
 
 # installs a C compiler where there is none
 demo:
-	$(RT)
+	$(if $(wildcard build/libmdf3.a),,$(RT))
 	@tests/needs $(firstword $(CC))
 	@$(MAKE) --no-print-directory all
 	@CC='$(CC)' examples/demo

@@ -105,10 +105,10 @@ extern "C" {
  * end of the group's records. */
 #define MDF3_NO_SUCH 14
 /* The sample cannot be read: the place of the channel's data type. The channel
- * has no bits; an integer of more than 64 bits, counted with the bits of its
- * lowest byte that lie below it; a float has another width than its type says,
- * or does not begin with a byte; text or bytes do not begin with a byte or are
- * no whole number of them; the data type is a VAX float (4 to 6). */
+ * has no bits; an integer has more than 64, counted with the bits of its lowest
+ * byte that lie below it; a float has another width than its type says, or does
+ * not begin with a byte; text or bytes do not begin with a byte or are no whole
+ * number of them; the data type is a VAX float (4 to 6). */
 #define MDF3_NO_SAMPLE 15
 /* The sample has no physical value. Place 0. It is text, bytes or a 32-bit
  * float; an integer above 9,007,199,254,740,992 or below its negative; the

@@ -30,9 +30,9 @@ use Rattle.put_records.specs.Dealing.{Turn}
 use Rattle.put_records.proofs.Owed.{areas-more, owed-none, paid-nil, wrote-paid}
 use Rattle.put_channels.specs.declared.Sum.{Sum}
 use Rattle.put_channels.specs.Written.{writtenBytes}
-use Rattle.put_channels.specs.Channels.{Capped, SumIs}
+use Rattle.put_channels.specs.Channels.{Capped}
 use Rattle.put_channels.proofs.Written.{written-bytes}
-use Rattle.put_groups.specs.Groups.{linkIf, headsAs, blocksAs, groupAs, Known}
+use Rattle.put_groups.specs.Groups.{linkIf, headsAs, blocksAs, groupAs, ChannelsSum, Known}
 
 -- ---- lengths
 
@@ -112,7 +112,7 @@ dg-length next group records = refl
 -- ---- writing
 
 pub known-of : (image : List ℕ) (g : Group) (text : Body) (sum : Sum) → AtGroup image g → BodyIs image text (theGroup image g .comment)
-    → SumIs sum (channelsLength (theGroup image g .channels)) (length (theGroup image g .channels)) → groupLength (theGroup image g) ≤ 2147483647 → Known image g text sum
+    → ChannelsSum image g sum → groupLength (theGroup image g) ≤ 2147483647 → Known image g text sum
 known-of image g text sum s b m h = record { stands = s; comment = b; long = m .length .exact (omega arith); many = m .count (omega arith) }
 
 module _ (image : List ℕ) (at next cn m : ℕ) (text : Body) (g : ReadGroup) (ok : WellFormedGroup g) (b : BodyIs image text (g .comment)) (e : cn ≡ at + 58 + bodyLength (g .comment)) (f : m ≡ channelsLength (g .channels)) where

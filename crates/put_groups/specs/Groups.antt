@@ -12,6 +12,7 @@ use Rattle.reading.specs.declared.Body.{Body}
 use Rattle.reading.specs.declared.Group.{Group}
 use Rattle.reading.specs.Steps.{AtGroup, theGroup, BodyIs}
 use Rattle.put_channels.specs.declared.Sum.{Sum}
+use Rattle.put_channels.specs.Channels.{SumIs}
 
 -- the place as a link; nil where n is 0, so that nothing stands there
 abbrev pub linkIf : ℕ → ℕ → ℕ
@@ -31,6 +32,10 @@ blocksAs at next g =
 
 unfoldable pub groupAs : ℕ → ℕ → ReadGroup → List ℕ
 groupAs at next g = blocksAs at next g ++ join (g .records)
+
+-- the length of a group's channels, and how many they are
+abbrev pub ChannelsSum : List ℕ → Group → Sum → Type 0
+ChannelsSum image g sum = SumIs sum (channelsLength (theGroup image g .channels)) (length (theGroup image g .channels))
 
 -- what is known of a group before it is written
 pub record Known (image : List ℕ) (g : Group) (text : Body) (sum : Sum) : Type 0 where

@@ -10,24 +10,24 @@ ghost use Prim.Native.Nat.{_+_, _≤_};
 ghost use lib.ListN.{length};
 ghost use Rattle.write.specs.Write.{Wrote};
 ghost use Rattle.answers.specs.Readings.{target};
-ghost use Rattle.answers.specs.Copies.{linkToFirst, channelsLength, groupLength, groupsLength, groupsBytes};
+ghost use Rattle.answers.specs.Copies.{linkToFirst, groupLength, groupsLength, groupsBytes};
 ghost use Rattle.reading.specs.Steps.{AtGroups, AtGroup, AtKeys, groupsLeft, theGroup};
 ghost use Rattle.put_channels.specs.Channels.{Capped, SumIs};
-ghost use Rattle.put_groups.specs.Groups.{linkIf, headsAs, blocksAs, Known};
+ghost use Rattle.put_groups.specs.Groups.{linkIf, headsAs, blocksAs, ChannelsSum, Known};
 
 // ---- a group
 
 // The length of its channels, and how many they are.
 fn channels_of(image: &[u8], g: Group) -> Sum
     requires { ⌜ AtGroup (now image) g ⌝ }
-    ensures { λ r. ⌜ SumIs r (channelsLength (theGroup (now (image .entry)) g .channels)) (length (theGroup (now (image .entry)) g .channels)) ⌝ }
+    ensures { λ r. ⌜ ChannelsSum (now (image .entry)) g r ⌝ }
 {
     put_channels::channels_sum(image, g.channels(image))
 }
 
 // The length of a group, given that of its channels. Above the longest copy it is not exact.
 fn group_length(image: &[u8], g: Group, sum: Sum) -> usize
-    requires { ⌜ AtGroup (now image) g × SumIs sum (channelsLength (theGroup (now image) g .channels)) (length (theGroup (now image) g .channels)) ⌝ }
+    requires { ⌜ AtGroup (now image) g × ChannelsSum (now image) g sum ⌝ }
     ensures { λ r. ⌜ Capped r (groupLength (theGroup (now (image .entry)) g)) × (58 ≤ r) × (r ≤ 2147483648) ⌝ }
 {
     let comment = put_channels::body_length(g.comment(image));
@@ -73,7 +73,7 @@ fn put_heads(
 
 // A group with all that it holds but its records, and the link to the next one; and where its records are to stand.
 fn put_blocks(out: &mut [u8], at: usize, image: &[u8], g: Group, sum: Sum, next: usize) -> usize
-    requires { ⌜ AtGroup (now image) g × SumIs sum (channelsLength (theGroup (now image) g .channels)) (length (theGroup (now image) g .channels)) × (groupLength (theGroup (now image) g) ≤ 2147483647) × (at + groupLength (theGroup (now image) g) ≤ length (now out)) ⌝ }
+    requires { ⌜ AtGroup (now image) g × ChannelsSum (now image) g sum × (groupLength (theGroup (now image) g) ≤ 2147483647) × (at + groupLength (theGroup (now image) g) ≤ length (now out)) ⌝ }
     ensures { λ r. ⌜ Wrote (now (out .entry)) (now (out .exit)) at (blocksAs at next (theGroup (now (image .entry)) g)) × (r ≡ at + length (blocksAs at next (theGroup (now (image .entry)) g))) ⌝ }
 {
     let comment = g.comment(image);

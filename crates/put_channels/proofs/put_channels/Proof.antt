@@ -45,11 +45,17 @@ returns c =
 enum-known-x : tie.Need-enum-known-x Inv-loop μ-loop
 enum-known-x c = search needs
 
--- ---- a turn with a channel
+-- ---- a turn with a channel: where it began, and the call
+
+abbrev at-loop : tie.After-known-told Inv-loop μ-loop → tie.At-loop Inv-loop μ-loop
+at-loop w = w .before .before .before .before
+
+abbrev start : tie.After-known-told Inv-loop μ-loop → tie.Start Inv-loop μ-loop
+start w = at-loop w .before .before .before
 
 -- the image, the channel, the cursor behind it
 abbrev image : tie.After-known-told Inv-loop μ-loop → List ℕ
-image w = w .before .before .before .before .before .before .before .args .image .now
+image w = start w .args .image .now
 
 abbrev x : tie.After-known-told Inv-loop μ-loop → Channel
 x w = w .before .x .given .0 .0
@@ -58,7 +64,7 @@ abbrev behind : tie.After-known-told Inv-loop μ-loop → Channels
 behind w = w .before .x .given .0 .1 .0
 
 -- what the step says of them
-went : (w : tie.After-known-told Inv-loop μ-loop) → ChannelStepIs (image w) (w .before .before .before .before .loop .c) (Next (x w) (behind w))
+went : (w : tie.After-known-told Inv-loop μ-loop) → ChannelStepIs (image w) (at-loop w .loop .c) (Next (x w) (behind w))
 went w = rw (w .before .x .given .1) at (w .before .before .before .next .ensures)
 
 bodies-of-requires : tie.Need-bodies-of-requires Inv-loop μ-loop
@@ -66,39 +72,46 @@ bodies-of-requires c κs = went c .0
 
 places-of-requires : tie.Need-places-of-requires Inv-loop μ-loop
 places-of-requires c κs =
-    let l = c .before .before .before .before .before in
-    let s = l .before .before .before in
-    (small-bodies _ _ _ (c .bodies-of .ensures), omega (arith, l .loop .inv .2, s .pre .1, s .good))
+    let w = c .before in
+    (small-bodies _ _ _ (c .bodies-of .ensures), omega (arith, at-loop w .loop .inv .2, start w .pre .1, start w .good))
 
--- where the channel ends
-end-is : (c : tie.After-places-of Inv-loop μ-loop) → c .places-of .result .end ≡ c .before .before .before .before .before .before .loop .to + channelLength (theChannel (image (c .before .before)) (x (c .before .before)))
-end-is c = places-by _ _ _ (c .before .bodies-of .ensures) _ _ (c .places-of .ensures) .end
+-- behind the places: the turn, and where the channel ends
+abbrev turn : tie.After-places-of Inv-loop μ-loop → tie.After-known-told Inv-loop μ-loop
+turn p = p .before .before
+
+end-is : (p : tie.After-places-of Inv-loop μ-loop) → p .places-of .result .end ≡ at-loop (turn p) .loop .to + channelLength (theChannel (image (turn p)) (x (turn p)))
+end-is p = places-by _ _ _ (p .before .bodies-of .ensures) _ _ (p .places-of .ensures) .end
 
 channels-link-requires : tie.Need-channels-link-requires Inv-loop μ-loop
-channels-link-requires c κs = went (c .before .before) .1
+channels-link-requires c κs = went (turn c) .1
 
 put-channel-requires : tie.Need-put-channel-requires Inv-loop μ-loop
 put-channel-requires c κs =
     let p = c .before .before in
-    let w = p .before .before in
-    let l = w .before .before .before .before in
-    (went w .0, p .before .bodies-of .ensures, p .places-of .ensures, omega (arith, l .loop .inv .2, ap channelsLength (went w .4), l .before .before .before .pre .1, g.same-length (l .loop .inv .1)))
+    let w = turn p in
+    let l = at-loop w .loop in
+    (went w .0, p .before .bodies-of .ensures, p .places-of .ensures, omega (arith, l .inv .2, ap channelsLength (went w .4), start w .pre .1, g.same-length (l .inv .1)))
 
 loop-less : tie.Need-loop-less Inv-loop μ-loop
-loop-less c = omega (arith, ap length (went (c .before .before .before .before .before .before .before) .4))
+loop-less c =
+    let p = c .before .before .before .before .before in
+    omega (arith, ap length (went (turn p) .4))
 
 loop-again : tie.Need-loop-again Inv-loop μ-loop
 loop-again c =
-    let d = c .before .before in
-    let p = d .before .before .before in
-    let w = p .before .before in
-    let l = w .before .before .before .before in
-    let ok = channel-well-formed _ _ _ _ (went w .0) (known-bytes (image w) (λ i. omega (arith, l .before .shared-slice-known .given i))) in
+    let done = c .before .before in
+    let p = done .before .before .before in
+    let w = turn p in
+    let l = at-loop w .loop in
+    let ok = channel-well-formed _ _ _ _ (went w .0) (known-bytes (image w) (λ i. omega (arith, at-loop w .before .shared-slice-known .given i))) in
     let end = p .places-of .result .end in
-    let n = channelsLeft (image w) (behind w) in
+    let left = channelsLeft (image w) (behind w) in
     let this = theChannel (image w) (x w) in
-    let s = rw (d .before .before .channels-link .ensures) at (d .put-channel .ensures) in
-    (went w .1, g.step (channelAs (l .loop .to) (target (linkToFirst end n)) this) end (l .loop .inv .1) (ap (channelsBytes (l .loop .to)) (went w .4) ∙ channels-cons (l .loop .to) end this n (end-is p)) s (end-is p ∙ sym (ap (λ k. l .loop .to + k) (channel-length _ (l .loop .to) (linkToFirst end n) this ok))), omega (arith, l .loop .inv .2, ap channelsLength (went w .4), end-is p))
+    let s = rw (done .before .before .channels-link .ensures) at (done .put-channel .ensures) in (
+      went w .1,
+      g.step (channelAs (l .to) (target (linkToFirst end left)) this) end (l .inv .1) (ap (channelsBytes (l .to)) (went w .4) ∙ channels-cons (l .to) end this left (end-is p)) s (end-is p ∙ sym (ap (λ k. l .to + k) (channel-length _ (l .to) (linkToFirst end left) this ok))),
+      omega (arith, l .inv .2, ap channelsLength (went w .4), end-is p),
+    )
 
 pub put-channels-spec : {M : Type 1} → statement M
 put-channels-spec =

@@ -1,6 +1,7 @@
 use borrow.Author.Needs.{needs}
 use Rattle.answers.specs.Copies.{groupsLength}
-use Rattle.reading.specs.Steps.{AtGroups, groupsLeft}
+use Rattle.reading.specs.declared.GroupStep.the-variants.{Next}
+use Rattle.reading.specs.Steps.{AtGroups, GroupStepIs, groupsLeft}
 use Rattle.put_channels.proofs.Sums.{sum-done, sum-over}
 use Rattle.put_groups.proofs.Groups.{capped-exact, capped-least}
 use Prim.Native.Nat.{_+_, _≤_}
@@ -34,39 +35,47 @@ returns c =
 enum-known-g : tie.Need-enum-known-g Inv-loop μ-loop
 enum-known-g c = search needs
 
+-- a turn with a group: where it began, and what the step says
+abbrev at-loop : tie.After-known-told Inv-loop μ-loop → tie.At-loop Inv-loop μ-loop
+at-loop w = w .before .before .before .before
+
+went : (w : tie.After-known-told Inv-loop μ-loop) → GroupStepIs (at-loop w .before .before .args .image .now) (at-loop w .loop .c) (Next (w .before .g .given .0 .0) (w .before .g .given .0 .1 .0))
+went w = rw (w .before .g .given .1) at (w .before .before .before .next .ensures)
+
 channels-of-requires : tie.Need-channels-of-requires Inv-loop μ-loop
-channels-of-requires c κs =
-    let w = rw (c .before .g .given .1) at (c .before .before .before .next .ensures) in
-    w .0
+channels-of-requires c κs = went c .0
 
 group-length-requires : tie.Need-group-length-requires Inv-loop μ-loop
-group-length-requires c κs =
-    let w = rw (c .before .before .g .given .1) at (c .before .before .before .before .next .ensures) in
-    (w .0, c .channels-of .ensures)
+group-length-requires c κs = (went (c .before) .0, c .channels-of .ensures)
+
+-- behind the length: the turn
+abbrev turn : tie.After-group-length Inv-loop μ-loop → tie.After-known-told Inv-loop μ-loop
+turn l = l .before .before
 
 add-sum : tie.Need-add-sum Inv-loop μ-loop
-add-sum c = omega (arith, c .group-length .ensures .2, c .before .before .before .before .before .before .loop .inv .1)
+add-sum c = omega (arith, c .group-length .ensures .2, at-loop (turn c) .loop .inv .1)
 
 returns-2 : tie.Need-returns-2 Inv-loop μ-loop
 returns-2 c =
-    let l = c .before .before .before .before .before .before .before .loop in
-    let w = rw (c .before .before .before .before .g .given .1) at (c .before .before .before .before .before .before .next .ensures) in
-    sum-over _ _ _ _ (c .if1 .taken) (omega (arith, l .inv .3, ap groupsLength (w .3), capped-least (c .before .group-length .ensures .0) (c .before .group-length .ensures .2))) (omega (arith, l .inv .1, c .before .group-length .ensures .2))
+    let l = c .before in
+    let inv = at-loop (turn l) .loop .inv in
+    sum-over _ _ _ _ (c .if1 .taken) (omega (arith, inv .3, ap groupsLength (went (turn l) .3), capped-least (l .group-length .ensures .0) (l .group-length .ensures .2))) (omega (arith, inv .1, l .group-length .ensures .2))
 
 add-count : tie.Need-add-count Inv-loop μ-loop
-add-count c = omega (arith, c .before .before .before .before .before .before .before .loop .inv .1, c .before .before .before .before .before .before .before .loop .inv .2)
+add-count c =
+    let inv = at-loop (turn (c .before)) .loop .inv in
+    omega (arith, inv .1, inv .2)
 
 loop-less : tie.Need-loop-less Inv-loop μ-loop
-loop-less c =
-    let w = rw (c .before .before .before .before .g .given .1) at (c .before .before .before .before .before .before .next .ensures) in
-    omega (arith, ap length (w .3))
+loop-less c = omega (arith, ap length (went (turn (c .before)) .3))
 
 loop-again : tie.Need-loop-again Inv-loop μ-loop
 loop-again c =
-    let l = c .before .before .before .before .before .before .before .loop in
-    let w = rw (c .before .before .before .before .g .given .1) at (c .before .before .before .before .before .before .next .ensures) in
-    let e = capped-exact (c .before .group-length .ensures .0) (omega (arith, c .if1 .left)) in
-    (w .1, omega (arith, c .if1 .left), omega (arith, l .inv .2, c .before .group-length .ensures .1), omega (arith, l .inv .3, ap groupsLength (w .3), e), omega (arith, l .inv .4, ap length (w .3)))
+    let l = c .before in
+    let inv = at-loop (turn l) .loop .inv in
+    let w = went (turn l) in
+    let e = capped-exact (l .group-length .ensures .0) (omega (arith, c .if1 .left)) in
+    (w .1, omega (arith, c .if1 .left), omega (arith, inv .2, l .group-length .ensures .1), omega (arith, inv .3, ap groupsLength (w .3), e), omega (arith, inv .4, ap length (w .3)))
 
 pub groups-sum-spec : {M : Type 1} → statement M
 groups-sum-spec =
