@@ -1,4 +1,5 @@
 pub mod Readings
 pub mod Copies
+pub mod Differences
 pub mod Outcomes
 pub mod Samples

@@ -1,4 +1,4 @@
 -- What the public calls give back.
 -- Assumes nothing.
-pub use Rattle.spec.specs.Call.{Outcome, outcomeOf, CopyOutcome, copied, line, checkOutcome}
-unfoldable pub use Rattle.spec.specs.Call.{copying, copyOutcome, programming, programOutcome, programOutput}
+pub use Rattle.spec.specs.Call.{Outcome, outcomeOf, CopyOutcome, copied, Pair, compared, line, checkOutcome}
+unfoldable pub use Rattle.spec.specs.Call.{copying, copyOutcome, comparing, compareOutcome, programming, programOutcome, programOutput}

@@ -1,5 +1,5 @@
 -- What each public call gives back, for every input: number, place, value, and what it leaves in an output memory.
--- Document 01, Numbers given back, Samples and the small program; docs/RULES.md, 7 and 8.
+-- Document 01, Numbers given back, Samples and the small program; docs/RULES.md, 7, 8 and 12.
 -- Assumes nothing.
 use Prim.Native.Nat.{ℕ, zero, suc, _+_, _/_, _%_}
 use mathlib.Core.Bool.{cond}
@@ -14,6 +14,7 @@ use Rattle.spec.specs.Records.{Logged}
 use Rattle.spec.specs.Found.{FoundChannel, groupsIn, recordsIn, readBody}
 use Rattle.spec.specs.Walk.{walk, reads, most}
 use Rattle.spec.specs.Canonical.{copyLength, canonicalCopy}
+use Rattle.spec.specs.Differences.{listLength, listBytes}
 use Rattle.spec.specs.Sample.{Stored, storedSample, Raw, rawValue, partOf, physicalValue}
 
 -- success is number 0, place 0; a refused call has no value
@@ -42,7 +43,7 @@ copying image room = do
   accepted r
 
 pub record CopyOutcome : Type 0 where
-  pub given : Outcome ℕ  -- the value: the copy's length
+  pub given : Outcome ℕ  -- the value: the length written
   pub memory : List ℕ
 
 -- refused: the output is untouched. Made: the copy, and behind it what the output held there
@@ -52,6 +53,33 @@ copied (accepted r) out = record { given = outcomeOf (accepted (copyLength r)); 
 
 unfoldable pub copyOutcome : List ℕ → List ℕ → CopyOutcome
 copyOutcome image out = copied (copying image (length out)) out
+
+-- ---- compare: the first image's refusal before the second's, then 12, 13
+
+pub record Pair : Type 0 where
+  pub first : Reading
+  pub second : Reading
+
+-- two readings whose difference list goes into an output of this length
+unfoldable pub comparing : List ℕ → List ℕ → ℕ → Answer Pair
+comparing first second room = do
+  r ← reads first
+  s ← reads second
+  _ ← require (leb (listLength r s) most) 12 0
+  _ ← require (leb (listLength r s) room) 13 (listLength r s)
+  accepted (record { first = r; second = s })
+
+-- refused: the output is untouched. Made: the list, and behind it what the output held there
+abbrev pub compared : Answer Pair → List ℕ → CopyOutcome
+compared (refused n p) out = record { given = outcomeOf (refused n p); memory = out }
+compared (accepted x) out =
+    record {
+      given = outcomeOf (accepted (listLength (x .first) (x .second)));
+      memory = listBytes (x .first) (x .second) ++ drop (listLength (x .first) (x .second)) out;
+    }
+
+unfoldable pub compareOutcome : List ℕ → List ℕ → List ℕ → CopyOutcome
+compareOutcome first second out = compared (comparing first second (length out)) out
 
 -- ---- sample, part, physical: then 14, 15; physical has 16 after these
 

@@ -6,6 +6,7 @@ pub mod Records
 pub mod Found
 pub mod Walk
 pub mod Canonical
+pub mod Differences
 pub mod Sample
 pub mod Call
 pub mod WellFormed
