@@ -1,0 +1,89 @@
+use Rattle.alike.proofs.Differing.{same-lengths}
+use Rattle.alike.proofs.Padding.{padded-length, padded-next, padded-end, Agree, agree-none, all-agree, one-differs, one-agrees}
+use Rattle.alike.specs.Padded.{padded}
+use Prim.Native.Nat.{_-_, _≤_}
+use mathlib.Core.Path.{_≡_, refl, sym, _∙_}
+use native.Mathlib.Omega.{arith}
+use borrow.Author.Needs.{needs}
+use Rattle.alike.proofs.same_padded.Statement.{statement}
+use Rattle.alike.proofs.same_padded.Tie as tie
+use Rattle.alike.proofs.same_padded.Reads as reads
+use Rattle.alike.proofs.same_padded.Lts as lts
+use Rattle.alike.proofs.padded_byte.Reads as padded-byte-reads
+
+abbrev Inv-loop : tie.InvT-loop
+Inv-loop a at held n b to kept m i₀ i = (i ≤ n) × (n ≡ m) × Agree (padded a at held n) (padded b to kept m) i
+
+abbrev μ-loop : tie.MeasureT-loop
+μ-loop a at held n b to kept m i₀ i = n - i
+
+-- src/lib.rt:55:9
+returns : tie.Need-returns Inv-loop μ-loop
+returns c =
+    let s = c .before .before .before in
+    let x = padded-length (s .args .a .now) (s .args .at) (s .args .held) (s .args .n) (s .pre .0) (s .pre .1) in
+    let y = padded-length (s .args .b .now) (s .args .to) (s .args .kept) (s .args .m) (s .pre .2) (s .pre .3) in
+    same-lengths (padded (s .args .a .now) (s .args .at) (s .args .held) (s .args .n)) (padded (s .args .b .now) (s .args .to) (s .args .kept) (s .args .m)) (λ e. c .if1 .taken (sym x ∙ e ∙ y))
+
+-- src/lib.rt:58:5
+loop-holds : tie.Need-loop-holds Inv-loop μ-loop
+loop-holds c = (omega arith, c .if1 .left, agree-none _ _)
+
+-- src/lib.rt:59:12
+padded-byte-requires : tie.Need-padded-byte-requires Inv-loop μ-loop
+padded-byte-requires c κs = search needs
+
+-- src/lib.rt:59:43
+padded-byte-requires-2 : tie.Need-padded-byte-requires-2 Inv-loop μ-loop
+padded-byte-requires-2 c κs = search needs
+
+-- src/lib.rt:60:13
+returns-2 : tie.Need-returns-2 Inv-loop μ-loop
+returns-2 c =
+    let l = c .before .before .before .before .loop in
+    let s = c .before .before .before .before .before .before .before .before in
+    let g = padded-next (s .args .a .now) (s .args .at) (s .args .held) (s .args .n) (s .pre .0) (s .pre .1) (l .i) in
+    let h = padded-next (s .args .b .now) (s .args .to) (s .args .kept) (s .args .m) (s .pre .2) (s .pre .3) (l .i) in
+    one-differs _ _ (l .i) (l .inv .2) (g (omega arith)) (h (omega (arith, l .inv .1))) (λ e. c .if2 .taken (c .before .before .padded-byte .ensures ∙ e ∙ sym (c .before .padded-byte2 .ensures)))
+
+-- src/lib.rt:62:9
+add-i : tie.Need-add-i Inv-loop μ-loop
+add-i c = search needs
+
+-- src/lib.rt:58:5
+loop-less : tie.Need-loop-less Inv-loop μ-loop
+loop-less c = search needs
+
+-- src/lib.rt:58:5
+loop-again : tie.Need-loop-again Inv-loop μ-loop
+loop-again c =
+    let l = c .before .before .before .before .loop in
+    let s = c .before .before .before .before .before .before .before .before in
+    let g = padded-next (s .args .a .now) (s .args .at) (s .args .held) (s .args .n) (s .pre .0) (s .pre .1) (l .i) in
+    let h = padded-next (s .args .b .now) (s .args .to) (s .args .kept) (s .args .m) (s .pre .2) (s .pre .3) (l .i) in
+    (omega arith, l .inv .1, one-agrees _ _ (l .i) (l .inv .2) (g (omega arith)) (h (omega (arith, l .inv .1))) (sym (c .before .before .padded-byte .ensures) ∙ c .if2 .left ∙ c .before .padded-byte2 .ensures) refl refl)
+
+-- src/lib.rt:50:1
+returns-3 : tie.Need-returns-3 Inv-loop μ-loop
+returns-3 c =
+    let l = c .before .loop in
+    let s = c .before .before .before .before .before in
+    let g = padded-end (s .args .a .now) (s .args .at) (s .args .held) (s .args .n) (s .pre .0) (s .pre .1) (l .i) (omega arith) in
+    let h = padded-end (s .args .b .now) (s .args .to) (s .args .kept) (s .args .m) (s .pre .2) (s .pre .3) (l .i) (omega (arith, l .inv .1)) in
+    all-agree _ _ (l .i) (l .inv .2) g h
+
+pub same-padded-spec : {M : Type 1} → statement M
+same-padded-spec =
+    tie.close
+    (tie.spec
+    Inv-loop
+    μ-loop
+    returns
+    loop-holds
+    padded-byte-requires
+    padded-byte-requires-2
+    returns-2
+    add-i
+    loop-less
+    loop-again
+    returns-3)
