@@ -17,10 +17,10 @@ use Rattle.spec.specs.Block.{opening, openBlock, bodyAt, readHd, readDg,
 use Rattle.spec.specs.Records.{inOrder, logFrom, logOf}
 use Rattle.spec.specs.Walk.{fieldsPass, formulaPasses, conversionAt, channelAt, channelList, groupList, dataGroupList, fileFrom, identPasses, walk, reads}
 use Rattle.spec.specs.Canonical.{channelLength, copyLength, canonicalCopy}
-use Rattle.spec.specs.Example.{counting, id300, signal}
+use Rattle.spec.specs.Example.{success, refusal, counting, id300, signal}
 use Rattle.spec.specs.Sample.{Stored, part, partOf}
-use Rattle.spec.specs.Call.{outcomeOf, checkOutcome, copying, copied, copyOutcome, sampling, sampleOutcome, partIn, partOutcome, programming, programOutcome, printed, line, programOutput}
-use Rattle.spec.specs.Facts.{LongImageIsRefused, LongCopyIsRefused, IdentIsCarried, PartIsTheSample, ProgramWritesTheCopy, ProgramWritesTheRefusal, smallFile, SomethingIsCopied}
+use Rattle.spec.specs.Call.{outcomeOf, checkOutcome, copying, copied, copyOutcome, comparing, compared, compareOutcome, sampling, sampleOutcome, partIn, partOutcome, programming, programOutcome, printed, line, programOutput}
+use Rattle.spec.specs.Facts.{LongImageIsRefused, LongCopyIsRefused, LongListIsRefused, CompareRefusesTheFirst, CompareRefusesTheSecond, IdentIsCarried, PartIsTheSample, ProgramWritesTheCopy, ProgramWritesTheRefusal, smallFile, SomethingIsCopied}
 use Rattle.spec.proofs.RoundTrip.{length-canonical}
 use Rattle.spec.proofs.Accepted.{accepted-well-formed}
 use Rattle.spec.proofs.Answers.{step, stop, fail, both, Gives, gives, bind, test, anything}
@@ -32,6 +32,10 @@ long-image-is-refused a h = ap (λ m. outcomeOf (passed m)) (stop _ (fail _ _ _ 
 pub long-copy-is-refused : LongCopyIsRefused
 unfolding copyOutcome copying
 long-copy-is-refused a r e h out = ap (λ m. copied m out) (step _ e (stop _ (fail _ _ _ (lt-leb _ _ h))))
+
+pub long-list-is-refused : LongListIsRefused
+unfolding compareOutcome comparing
+long-list-is-refused a b r s e e′ h out = ap (λ m. compared m out) (step _ e (step _ e′ (stop _ (fail _ _ _ (lt-leb _ _ h)))))
 
 -- ---- the ident
 
@@ -58,6 +62,37 @@ ident-is-carried a r e = go (walk a) refl e
         sym (ap (λ (x : Reading). x .ident) s) ∙ ident-kept a .given f q
 
 -- ---- calls that go together
+
+refused-reads : (a : List ℕ) (n p : ℕ) → checkOutcome a ≡ refusal n p → reads a ≡ refused n p
+unfolding checkOutcome reads
+refused-reads a n p e = go (walk a) e
+  where
+    go : (m : Answer FoundFile) → outcomeOf (passed m) ≡ refusal n p → mapAnswer readingOf m ≡ refused n p
+    go (refused k q) e =
+        let i : k ≡ n = ap (λ o. o .number) e in
+        let j : q ≡ p = ap (λ o. o .place) e in
+        cc
+    go (accepted f) e =
+        let v : some tt ≡ none = ap (λ o. o .value) e in
+        let z : _≡_ {A = ℕ} 0 1 = cc in absurd (omega arith)
+
+accepted-reads : (a : List ℕ) → checkOutcome a ≡ success tt → (r : Reading) × (reads a ≡ accepted r)
+unfolding checkOutcome reads
+accepted-reads a e = go (walk a) e
+  where
+    go : (m : Answer FoundFile) → outcomeOf (passed m) ≡ success tt → (r : Reading) × (mapAnswer readingOf m ≡ accepted r)
+    go (refused k q) e =
+        let v : none ≡ some tt = ap (λ o. o .value) e in
+        let z : _≡_ {A = ℕ} 0 1 = cc in absurd (omega arith)
+    go (accepted f) e = (readingOf f, refl)
+
+pub compare-refuses-the-first : CompareRefusesTheFirst
+unfolding compareOutcome comparing
+compare-refuses-the-first a b n p e out = ap (λ m. compared m out) (stop _ (refused-reads a n p e))
+
+pub compare-refuses-the-second : CompareRefusesTheSecond
+unfolding compareOutcome comparing
+compare-refuses-the-second a b n p e e′ out = ap (λ m. compared m out) (step _ (accepted-reads a e .1) (stop _ (refused-reads b n p e′)))
 
 pub part-is-the-sample : PartIsTheSample
 unfolding sampleOutcome partOutcome partOf

@@ -1,4 +1,5 @@
 pub mod Answers
+pub mod Bytes
 pub mod Places
 pub mod Blocks
 pub mod Channels
@@ -9,6 +10,8 @@ pub mod Opens
 pub mod Accepted
 pub mod CopyBytes
 pub mod Demand3
+pub mod Differing
+pub mod EntryOrder
 pub mod Examples
 pub mod Facts
 pub mod Signs
