@@ -1,5 +1,5 @@
--- Worked examples: images built byte by byte, and what each call gives for them. Document 01, Postings to agree with; docs/RULES.md, 10.
--- The first table has every example that document 01 marks. The others are ours, for refusals, layout and samples. Too large to compute here: 1, 12, and 7 for channels.
+-- Worked examples: images built byte by byte, and what each call gives for them. Document 01, Postings to agree with; docs/RULES.md, 10 and 12.
+-- The first table has every example that document 01 marks. The others are ours, for refusals, layout, samples and differences. Too large to compute here: 1, 12, and 7 for channels.
 -- Assumes nothing.
 use Prim.Native.Nat.{ℕ, zero, suc, _+_, _-_, _%_}
 use mathlib.Core.Path.{_≡_}
@@ -12,10 +12,11 @@ use lib.Ieee.{Float, nan, inf, fin}
 use Rattle.spec.specs.Bytes.{bytesOf, join}
 use Rattle.spec.specs.Answer.{Answer, refused, accepted, mapAnswer, passed}
 use Rattle.spec.specs.Block.{imageOf}
-use Rattle.spec.specs.Reading.{Group, Reading}
+use Rattle.spec.specs.Reading.{Body, Channel, Group, Reading}
 use Rattle.spec.specs.Walk.{channelList, groupList, dataGroupList, most, reads}
+use Rattle.spec.specs.Differences.{Entry, entry, entryBytes, differences}
 use Rattle.spec.specs.Sample.{part, Raw, natural, integer, float32, float64, bytesAt}
-use Rattle.spec.specs.Call.{Outcome, CopyOutcome, checkOutcome, copyOutcome, sampleOutcome, rawOutcome, partOutcome, physicalOutcome, programOutcome, decimal, programOutput}
+use Rattle.spec.specs.Call.{Outcome, CopyOutcome, checkOutcome, copyOutcome, compareOutcome, sampleOutcome, rawOutcome, partOutcome, physicalOutcome, programOutcome, decimal, programOutput}
 
 -- ---- what an example says
 
@@ -23,6 +24,8 @@ pub data Example : Type 0 where
   checked : List ℕ → ℕ → ℕ → Example  -- image; number and place of check
   recorded : List ℕ → List (List (List ℕ)) → Example  -- image; the records of each group of its reading
   copies : List ℕ → List ℕ → CopyOutcome → Example  -- image, output memory; what copy gives and leaves
+  compares : List ℕ → List ℕ → List ℕ → CopyOutcome → Example  -- two images, output memory; what compare gives and leaves
+  differ : Reading → Reading → List Entry → Example  -- two readings; the entries of their difference list
   sampled : List ℕ → Outcome Raw → Example  -- image; its sample 0 of channel 0 of group 0
   asked : List ℕ → ℕ → ℕ → ℕ → ℕ → ℕ → Example  -- image, group, channel, record; number and place of sample
   parted : List ℕ → List ℕ → Example  -- image; the part that is its sample 0, 0, 0
@@ -36,6 +39,7 @@ pub data Result : Type 0 where
   numbersResult : ℕ → ℕ → Result
   recordsResult : Answer (List (List (List ℕ))) → Result
   copyResult : CopyOutcome → Result
+  entriesResult : List Entry → Result
   rawResult : Outcome Raw → Result
   floatResult : Outcome Float → Result
   bytesResult : List ℕ → Result
@@ -45,6 +49,8 @@ abbrev pub given : Example → Result
 given (checked image number place) = numbersResult (checkOutcome image .number) (checkOutcome image .place)
 given (recorded image rows) = recordsResult (mapAnswer recordsRead (reads image))
 given (copies image memory outcome) = copyResult (copyOutcome image memory)
+given (compares first second memory outcome) = copyResult (compareOutcome first second memory)
+given (differ first second entries) = entriesResult (differences first second)
 given (sampled image outcome) = rawResult (rawOutcome image 0 0 0)
 given (asked image group channel row number place) = numbersResult (rawOutcome image group channel row .number) (rawOutcome image group channel row .place)
 given (parted image bytes) = bytesResult (partOutcome image 0 0 0)
@@ -56,6 +62,8 @@ abbrev pub expected : Example → Result
 expected (checked image number place) = numbersResult number place
 expected (recorded image rows) = recordsResult (accepted rows)
 expected (copies image memory outcome) = copyResult outcome
+expected (compares first second memory outcome) = copyResult outcome
+expected (differ first second entries) = entriesResult entries
 expected (sampled image outcome) = rawResult outcome
 expected (asked image group channel row number place) = numbersResult number place
 expected (parted image bytes) = bytesResult bytes
@@ -618,8 +626,116 @@ clauses =
     ∷ converts (oneRecord 8 0 64 3 f64-most) (success (fin false 9007199254740991 (pos 971)))
     ∷ []
 
+-- ---- two files compared
+
+-- the bytes of an entry: kind, group, item, byte place
+abbrev pub written : ℕ → ℕ → ℕ → ℕ → List ℕ
+written kind group item byte = join (bytesOf 2 kind ∷ zeros 2 ∷ bytesOf 4 group ∷ bytesOf 4 item ∷ bytesOf 4 byte ∷ [])
+
+-- one group of records of this size, with one channel of 8 bits
+abbrev pub rowsOf : ℕ → ℕ → List ℕ → List ℕ
+rowsOf size count bytes = oneGroup size count (signal 0 8 0) bytes
+
+abbrev pub one : List ℕ
+one = 1 ∷ []
+
+abbrev pub two : List ℕ
+two = 2 ∷ []
+
+-- main and added fields, conversion, extension, comment, long name, display name
+abbrev pub channelOf : List ℕ → List ℕ → Body → Body → Body → Body → Body → Channel
+channelOf main added conversion extension comment longName displayName =
+    record {
+      fields = record { main = main; added = added };
+      conversion = conversion;
+      extension = extension;
+      comment = comment;
+      longName = longName;
+      displayName = displayName;
+    }
+
+abbrev pub plainChannel : Channel
+plainChannel = channelOf one one none none none none none
+
+-- record size, comment, channels, records
+abbrev pub groupOf : ℕ → Body → List Channel → List (List ℕ) → Group
+groupOf size comment channels records = record { recordSize = size; comment = comment; channels = channels; records = records }
+
+-- ID, HD fields, those from version 320 on, comment, program, groups
+abbrev pub ofFile : List ℕ → List ℕ → List ℕ → Body → Body → List Group → Reading
+ofFile ident plain later comment program groups = record { ident = ident; plain = plain; later = later; comment = comment; program = program; groups = groups }
+
+abbrev pub ofGroups : List Group → Reading
+ofGroups groups = ofFile one one one none none groups
+
+-- a group without channels and records, and one with one of each
+abbrev pub bare : Group
+bare = groupOf 1 none [] []
+
+abbrev pub full : Group
+full = groupOf 1 none (plainChannel ∷ []) (one ∷ [])
+
+abbrev pub ofChannels : List Channel → Reading
+ofChannels channels = ofGroups (groupOf 1 none channels [] ∷ [])
+
+abbrev pub ofRecords : List (List ℕ) → Reading
+ofRecords records = ofGroups (groupOf 1 none [] records ∷ [])
+
+-- each differs from the plain one in one part, but for the last
+abbrev pub manyChannels : List Channel
+manyChannels =
+    channelOf two one none none none none none
+    ∷ channelOf one two none none none none none
+    ∷ channelOf one one (some []) none none none none
+    ∷ channelOf one one none (some []) none none none
+    ∷ channelOf one one none none (some []) none none
+    ∷ channelOf one one none none none (some []) none
+    ∷ channelOf one one none none none none (some [])
+    ∷ plainChannel
+    ∷ []
+
+-- of calls, then of readings that are too small for a file
+unfoldable pub comparisons : List Example
+comparisons =
+    compares plain300 plain300 [] (record { given = success 0; memory = [] })
+    ∷ compares mode1 mode2 (room 3) (record { given = success 0; memory = room 3 })
+    ∷ compares plain300 plain320 (room 40) (record { given = success 32; memory = written 1 0 0 0 ++ written 1 0 1 0 ++ room 8 })
+    ∷ compares plain300 plain320 (room 31) (record { given = refusal 13 32; memory = room 31 })
+    ∷ compares plain300 (header (hdBlock 0 228 0 0) ++ text []) (room 16) (record { given = success 16; memory = written 1 0 2 0 })
+    ∷ compares (header (hdBlock 0 0 228 0) ++ small 80 82 []) plain300 (room 15) (record { given = refusal 13 16; memory = room 15 })
+    ∷ compares plain300 (rowsOf 1 1 (255 ∷ [])) (room 16) (record { given = success 16; memory = written 2 0 0 0 })
+    ∷ compares (rowsOf 2 2 (1 ∷ 2 ∷ 3 ∷ 4 ∷ [])) (rowsOf 2 3 (1 ∷ 2 ∷ 3 ∷ 5 ∷ 6 ∷ 7 ∷ [])) (room 32) (record { given = success 32; memory = written 4 0 1 1 ++ written 5 0 2 0 })
+    ∷ compares (rowsOf 3 1 (1 ∷ 2 ∷ 3 ∷ [])) (rowsOf 2 1 (1 ∷ 2 ∷ [])) (room 32) (record { given = success 32; memory = written 3 0 0 0 ++ written 4 0 0 2 })
+    ∷ compares mode1 (twoGroups 1 (1 ∷ 0xAA ∷ 0xBB ∷ 2 ∷ 0xCD ∷ 1 ∷ 0xDD ∷ 0xEF ∷ [])) (room 32) (record { given = success 32; memory = written 4 0 1 1 ++ written 4 1 0 0 })
+    ∷ compares (rowsOf 300 1 (zeros 300)) (rowsOf 300 1 (zeros 299 ++ one)) (room 17) (record { given = success 16; memory = 4 ∷ 0 ∷ 0 ∷ 0 ∷ 0 ∷ 0 ∷ 0 ∷ 0 ∷ 0 ∷ 0 ∷ 0 ∷ 0 ∷ 43 ∷ 1 ∷ 0 ∷ 0 ∷ room 1 })
+    ∷ compares id300 [] (room 1) (record { given = refusal 5 64; memory = room 1 })
+    ∷ compares plain300 [] (room 1) (record { given = refusal 2 0; memory = room 1 })
+    -- kind 1: each item by itself, and all four
+    ∷ differ (ofFile one one one none none []) (ofFile two one one none none []) (entry 1 0 0 0 ∷ [])
+    ∷ differ (ofFile one one one none none []) (ofFile one two one none none []) (entry 1 0 1 0 ∷ [])
+    ∷ differ (ofFile one one [] none none []) (ofFile one one one none none []) (entry 1 0 1 0 ∷ [])
+    ∷ differ (ofFile one one one none none []) (ofFile one one one (some []) none []) (entry 1 0 2 0 ∷ [])
+    ∷ differ (ofFile one one one none (some one) []) (ofFile one one one none none []) (entry 1 0 3 0 ∷ [])
+    ∷ differ (ofFile one one one (some one) (some one) []) (ofFile two two two (some two) (some two) []) (entry 1 0 0 0 ∷ entry 1 0 1 0 ∷ entry 1 0 2 0 ∷ entry 1 0 3 0 ∷ [])
+    -- kind 2: groups of the first alone, and of the second alone
+    ∷ differ (ofGroups (bare ∷ full ∷ bare ∷ [])) (ofGroups (bare ∷ [])) (entry 2 1 0 0 ∷ entry 2 2 0 0 ∷ [])
+    ∷ differ (ofGroups []) (ofGroups (full ∷ bare ∷ [])) (entry 2 0 0 0 ∷ entry 2 1 0 0 ∷ [])
+    -- kind 3, item 0: record size, and comment
+    ∷ differ (ofGroups (bare ∷ bare ∷ bare ∷ [])) (ofGroups (groupOf 2 none [] [] ∷ groupOf 1 (some []) [] [] ∷ bare ∷ [])) (entry 3 0 0 0 ∷ entry 3 1 0 0 ∷ [])
+    -- kind 3, item c + 1: channels that differ in one part each, and the last in none
+    ∷ differ (ofChannels (replicate 8 plainChannel)) (ofChannels manyChannels) (entry 3 0 1 0 ∷ entry 3 0 2 0 ∷ entry 3 0 3 0 ∷ entry 3 0 4 0 ∷ entry 3 0 5 0 ∷ entry 3 0 6 0 ∷ entry 3 0 7 0 ∷ [])
+    -- and channels of one file alone
+    ∷ differ (ofChannels (replicate 3 plainChannel)) (ofChannels (replicate 1 plainChannel)) (entry 3 0 2 0 ∷ entry 3 0 3 0 ∷ [])
+    ∷ differ (ofChannels (replicate 1 plainChannel)) (ofChannels (replicate 3 plainChannel)) (entry 3 0 2 0 ∷ entry 3 0 3 0 ∷ [])
+    -- kinds 4 and 5: equal, differing at byte 0, at byte 1 and behind it, one the beginning of the other, and in one file alone
+    ∷ differ (ofRecords (one ∷ one ∷ (1 ∷ 2 ∷ 3 ∷ []) ∷ (1 ∷ 2 ∷ []) ∷ [])) (ofRecords (one ∷ two ∷ (1 ∷ 3 ∷ 4 ∷ []) ∷ (1 ∷ 2 ∷ 3 ∷ []) ∷ one ∷ one ∷ [])) (entry 4 0 1 0 ∷ entry 4 0 2 1 ∷ entry 4 0 3 2 ∷ entry 5 0 4 0 ∷ entry 5 0 5 0 ∷ [])
+    ∷ differ (ofRecords (one ∷ one ∷ one ∷ [])) (ofRecords (one ∷ [])) (entry 5 0 1 0 ∷ entry 5 0 2 0 ∷ [])
+    -- order: the file, group 0, group 1, and a group in one file alone
+    ∷ differ (ofFile one one one none (some one) (groupOf 1 none (plainChannel ∷ []) (one ∷ one ∷ []) ∷ groupOf 1 none [] (one ∷ []) ∷ bare ∷ [])) (ofFile one two one none none (groupOf 2 none [] (one ∷ two ∷ one ∷ []) ∷ groupOf 1 none (plainChannel ∷ []) (two ∷ []) ∷ [])) (entry 1 0 1 0 ∷ entry 1 0 3 0 ∷ entry 3 0 0 0 ∷ entry 3 0 1 0 ∷ entry 4 0 1 0 ∷ entry 5 0 2 0 ∷ entry 3 1 1 0 ∷ entry 4 1 0 0 ∷ entry 2 2 0 0 ∷ [])
+    ∷ []
+
 abbrev pub OwnExamplesAgree : Type 0
-OwnExamplesAgree = Agree checks × Agree others × Agree edges × Agree clauses
+OwnExamplesAgree = Agree checks × Agree others × Agree edges × Agree clauses × Agree comparisons
 
 -- what the tables have no row for: samples of a later group and record, the function under the program, numbers as bytes, the limits of 7 at their end, the limit of 1 and 12
 -- Where a file may have one channel, the second is refused also in a later group or data group.
@@ -633,6 +749,7 @@ SmallExamplesAgree =
     × (programOutcome (zeros 32769) (room 3) ≡ record { given = refusal 1 0; memory = room 3 })
     × (decimal 2147483647 ≡ 50 ∷ 49 ∷ 52 ∷ 55 ∷ 52 ∷ 56 ∷ 51 ∷ 54 ∷ 52 ∷ 55 ∷ [])
     × (bytesOf 4 0x01020304 ≡ 4 ∷ 3 ∷ 2 ∷ 1 ∷ [])
+    × (entryBytes (record { kind = 0x0102; group = 0x03040506; item = 0x0708090A; byte = 0x0B0C0D0E }) ≡ 2 ∷ 1 ∷ 0 ∷ 0 ∷ 6 ∷ 5 ∷ 4 ∷ 3 ∷ 10 ∷ 9 ∷ 8 ∷ 7 ∷ 14 ∷ 13 ∷ 12 ∷ 11 ∷ [])
     × (groupList (imageOf []) 0 9 0 (1 ∷ []) 260 (some 1) ≡ refused 7 260)
     × (channelList (imageOf []) 0 9 264 (some 1) ≡ refused 7 264)
     × (dataGroupList (imageOf (grid 8 0)) 1 2 1 68 (some 228) ≡ refused 7 294)
