@@ -7,7 +7,7 @@ use mathlib.Core.List.{List, [], _∷_, _++_, map}
 use mathlib.Core.Option.{none, some}
 use native.Mathlib.Omega.{arith}
 use lib.ListN.{length, length-append}
-use borrow.Author.Tests.{eqb-true, eq-eqb, leb-true, le-leb}
+use borrow.Author.Tests.{eqb-true, eq-eqb, leb-true, le-leb, lt-leb}
 use Rattle.spec.specs.Bytes.{Bytes, bytesOf, join}
 use Rattle.spec.specs.Answer.{Answer, refused, accepted}
 use Rattle.spec.specs.Reading.{Body, Channel, Group, Reading}
@@ -16,8 +16,8 @@ use Rattle.spec.specs.Canonical.{copyLength, canonicalCopy}
 use Rattle.spec.specs.Differences.{Entry, entryBytes, unless, sameBody, sameChannel, sameOwn, sameHeader, alone, fileEntries, channelEntries, recordEntries, groupEntries, groupsAlone, groupsEntries, differences, listLength, listBytes}
 use Rattle.spec.specs.Call.{copying, copied, copyOutcome, Pair, comparing, compared, compareOutcome}
 use Rattle.spec.specs.Demand3.{Copyable, Room, copyIn, Same}
-use Rattle.spec.specs.Differing.{DifferenceIsTheFirst, NoDifferenceExactlyWhenEqual, ListIsSymmetric, ListHasTheLength, ListIsBytes, ListIsEmptyExactlyWhenReadingsAreEqual, NoDifferenceExactlyWhenCopiesAreEqual, ListIsEmptyExactlyWhenCopiesAreEqual}
-use Rattle.spec.proofs.Answers.{step, pass, both, Gives, gives, bind, test}
+use Rattle.spec.specs.Differing.{DifferenceIsTheFirst, NoDifferenceExactlyWhenEqual, ListIsSymmetric, ListHasTheLength, ListIsBytes, CompareSucceeds, CompareNeedsRoom, ListIsEmptyExactlyWhenReadingsAreEqual, NoDifferenceExactlyWhenCopiesAreEqual, ListIsEmptyExactlyWhenCopiesAreEqual}
+use Rattle.spec.proofs.Answers.{step, pass, stop, fail, both, Gives, gives, bind, test}
 use Rattle.spec.proofs.Bytes.{eqb-turned, same-refl, same-equal, same-turned, difference-turned, difference-first}
 use Rattle.spec.proofs.Opens.{bytes-append, bytes-join, bytes-of}
 use Rattle.spec.proofs.Demand3.{accepted-reading-is-well-formed, canonical-copy-reads-back, copies-equal-exactly-when-readings-are}
@@ -268,6 +268,25 @@ list-is-bytes r s = entries-bytes (differences r s)
 
 -- ---- the call
 
+pub compare-succeeds : CompareSucceeds
+unfolding compareOutcome comparing
+compare-succeeds a b r s p q small out fits =
+    ap (λ x. compared x out)
+    (step _ p
+    (step _ q
+    (step _ (pass _ _ _ (le-leb _ _ small))
+    (step _ (pass _ _ _ (le-leb _ _ fits))
+    refl))))
+
+pub compare-needs-room : CompareNeedsRoom
+unfolding compareOutcome comparing
+compare-needs-room a b r s p q small out short =
+    ap (λ x. compared x out)
+    (step _ p
+    (step _ q
+    (step _ (pass _ _ _ (le-leb _ _ small))
+    (stop _ (fail _ _ _ (lt-leb _ _ short))))))
+
 no-entries : (es : List Entry) → 16 * length es ≡ 0 → es ≡ []
 no-entries [] e = refl
 no-entries (x ∷ es) e = absurd (omega arith)
@@ -296,12 +315,7 @@ module _ (a b : List ℕ) (r s : Reading) (p : reads a ≡ accepted r) (q : read
           cc
 
   then-empty : listLength r s ≡ 0 → compareOutcome a b out .given .value ≡ some 0
-  unfolding compareOutcome comparing
-  then-empty e =
-      let small : listLength r s ≤ most = omega arith in
-      let fits : listLength r s ≤ length out = omega arith in
-      ap (λ x. compared x out .given .value) (step _ p (step _ q (step _ (pass _ _ _ (le-leb _ _ small)) (step _ (pass _ _ _ (le-leb _ _ fits)) refl))))
-      ∙ ap some e
+  then-empty e = ap (λ o. o .given .value) (compare-succeeds a b r s p q (omega arith) out (omega arith)) ∙ ap some e
 
 pub list-is-empty-exactly-when-readings-are-equal : ListIsEmptyExactlyWhenReadingsAreEqual
 unfolding listLength

@@ -4,13 +4,13 @@
 use Prim.Native.Nat.{ℕ, _≤_, _<_}
 use mathlib.Core.Path.{_≡_}
 use mathlib.Core.Logic.{_↔_}
-use mathlib.Core.List.{List, [], _∷_}
-use mathlib.Core.Option.{some}
-use lib.ListN.{length, take, getD}
+use mathlib.Core.List.{List, [], _∷_, _++_}
+use mathlib.Core.Option.{none, some}
+use lib.ListN.{length, take, drop, getD}
 use Rattle.spec.specs.Bytes.{All, Bytes, difference}
 use Rattle.spec.specs.Answer.{accepted}
 use Rattle.spec.specs.Reading.{Reading}
-use Rattle.spec.specs.Walk.{reads}
+use Rattle.spec.specs.Walk.{reads, most}
 use Rattle.spec.specs.Canonical.{canonicalCopy}
 use Rattle.spec.specs.Differences.{Entry, differences, listLength, listBytes}
 use Rattle.spec.specs.Call.{copyOutcome, compareOutcome}
@@ -58,6 +58,28 @@ abbrev pub ListIsBytes : Type 0
 ListIsBytes = (r s : Reading) → Bytes (listBytes r s)
 
 -- ---- the call
+
+-- the list stands before what the output held
+abbrev pub CompareSucceeds : Type 0
+CompareSucceeds =
+    (a b : List ℕ) (r s : Reading)
+    → reads a ≡ accepted r
+    → reads b ≡ accepted s
+    → listLength r s ≤ most
+    → (out : List ℕ)
+    → listLength r s ≤ length out
+    → compareOutcome a b out ≡ record { given = record { number = 0; place = 0; value = some (listLength r s) }; memory = listBytes r s ++ drop (listLength r s) out }
+
+-- the place is the length that it needs
+abbrev pub CompareNeedsRoom : Type 0
+CompareNeedsRoom =
+    (a b : List ℕ) (r s : Reading)
+    → reads a ≡ accepted r
+    → reads b ≡ accepted s
+    → listLength r s ≤ most
+    → (out : List ℕ)
+    → length out < listLength r s
+    → compareOutcome a b out ≡ record { given = record { number = 13; place = listLength r s; value = none }; memory = out }
 
 -- it writes nothing exactly when the readings are equal
 abbrev pub ListIsEmptyExactlyWhenReadingsAreEqual : Type 0

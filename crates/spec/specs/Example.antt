@@ -675,11 +675,12 @@ bare = groupOf 1 none [] []
 abbrev pub full : Group
 full = groupOf 1 none (plainChannel ∷ []) (one ∷ [])
 
+-- group 1 has these
 abbrev pub ofChannels : List Channel → Reading
-ofChannels channels = ofGroups (groupOf 1 none channels [] ∷ [])
+ofChannels channels = ofGroups (bare ∷ groupOf 1 none channels [] ∷ [])
 
 abbrev pub ofRecords : List (List ℕ) → Reading
-ofRecords records = ofGroups (groupOf 1 none [] records ∷ [])
+ofRecords records = ofGroups (bare ∷ groupOf 1 none [] records ∷ [])
 
 -- each differs from the plain one in one part, but for the last
 abbrev pub manyChannels : List Channel
@@ -719,17 +720,17 @@ comparisons =
     ∷ differ (ofFile one one one (some one) (some one) []) (ofFile two two two (some two) (some two) []) (entry 1 0 0 0 ∷ entry 1 0 1 0 ∷ entry 1 0 2 0 ∷ entry 1 0 3 0 ∷ [])
     -- kind 2: groups of the first alone, and of the second alone
     ∷ differ (ofGroups (bare ∷ full ∷ bare ∷ [])) (ofGroups (bare ∷ [])) (entry 2 1 0 0 ∷ entry 2 2 0 0 ∷ [])
-    ∷ differ (ofGroups []) (ofGroups (full ∷ bare ∷ [])) (entry 2 0 0 0 ∷ entry 2 1 0 0 ∷ [])
+    ∷ differ (ofGroups (bare ∷ [])) (ofGroups (bare ∷ full ∷ bare ∷ [])) (entry 2 1 0 0 ∷ entry 2 2 0 0 ∷ [])
     -- kind 3, item 0: record size, and comment
     ∷ differ (ofGroups (bare ∷ bare ∷ bare ∷ [])) (ofGroups (groupOf 2 none [] [] ∷ groupOf 1 (some []) [] [] ∷ bare ∷ [])) (entry 3 0 0 0 ∷ entry 3 1 0 0 ∷ [])
     -- kind 3, item c + 1: channels that differ in one part each, and the last in none
-    ∷ differ (ofChannels (replicate 8 plainChannel)) (ofChannels manyChannels) (entry 3 0 1 0 ∷ entry 3 0 2 0 ∷ entry 3 0 3 0 ∷ entry 3 0 4 0 ∷ entry 3 0 5 0 ∷ entry 3 0 6 0 ∷ entry 3 0 7 0 ∷ [])
+    ∷ differ (ofChannels (replicate 8 plainChannel)) (ofChannels manyChannels) (entry 3 1 1 0 ∷ entry 3 1 2 0 ∷ entry 3 1 3 0 ∷ entry 3 1 4 0 ∷ entry 3 1 5 0 ∷ entry 3 1 6 0 ∷ entry 3 1 7 0 ∷ [])
     -- and channels of one file alone
-    ∷ differ (ofChannels (replicate 3 plainChannel)) (ofChannels (replicate 1 plainChannel)) (entry 3 0 2 0 ∷ entry 3 0 3 0 ∷ [])
-    ∷ differ (ofChannels (replicate 1 plainChannel)) (ofChannels (replicate 3 plainChannel)) (entry 3 0 2 0 ∷ entry 3 0 3 0 ∷ [])
+    ∷ differ (ofChannels (replicate 3 plainChannel)) (ofChannels (replicate 1 plainChannel)) (entry 3 1 2 0 ∷ entry 3 1 3 0 ∷ [])
+    ∷ differ (ofChannels (replicate 1 plainChannel)) (ofChannels (replicate 3 plainChannel)) (entry 3 1 2 0 ∷ entry 3 1 3 0 ∷ [])
     -- kinds 4 and 5: equal, differing at byte 0, at byte 1 and behind it, one the beginning of the other, and in one file alone
-    ∷ differ (ofRecords (one ∷ one ∷ (1 ∷ 2 ∷ 3 ∷ []) ∷ (1 ∷ 2 ∷ []) ∷ [])) (ofRecords (one ∷ two ∷ (1 ∷ 3 ∷ 4 ∷ []) ∷ (1 ∷ 2 ∷ 3 ∷ []) ∷ one ∷ one ∷ [])) (entry 4 0 1 0 ∷ entry 4 0 2 1 ∷ entry 4 0 3 2 ∷ entry 5 0 4 0 ∷ entry 5 0 5 0 ∷ [])
-    ∷ differ (ofRecords (one ∷ one ∷ one ∷ [])) (ofRecords (one ∷ [])) (entry 5 0 1 0 ∷ entry 5 0 2 0 ∷ [])
+    ∷ differ (ofRecords (one ∷ one ∷ (1 ∷ 2 ∷ 3 ∷ []) ∷ (1 ∷ 2 ∷ []) ∷ [])) (ofRecords (one ∷ two ∷ (1 ∷ 3 ∷ 4 ∷ []) ∷ (1 ∷ 2 ∷ 3 ∷ []) ∷ one ∷ one ∷ [])) (entry 4 1 1 0 ∷ entry 4 1 2 1 ∷ entry 4 1 3 2 ∷ entry 5 1 4 0 ∷ entry 5 1 5 0 ∷ [])
+    ∷ differ (ofRecords (one ∷ one ∷ one ∷ [])) (ofRecords (one ∷ [])) (entry 5 1 1 0 ∷ entry 5 1 2 0 ∷ [])
     -- order: the file, group 0, group 1, and a group in one file alone
     ∷ differ (ofFile one one one none (some one) (groupOf 1 none (plainChannel ∷ []) (one ∷ one ∷ []) ∷ groupOf 1 none [] (one ∷ []) ∷ bare ∷ [])) (ofFile one two one none none (groupOf 2 none [] (one ∷ two ∷ one ∷ []) ∷ groupOf 1 none (plainChannel ∷ []) (two ∷ []) ∷ [])) (entry 1 0 1 0 ∷ entry 1 0 3 0 ∷ entry 3 0 0 0 ∷ entry 3 0 1 0 ∷ entry 4 0 1 0 ∷ entry 5 0 2 0 ∷ entry 3 1 1 0 ∷ entry 4 1 0 0 ∷ entry 2 2 0 0 ∷ [])
     ∷ []
