@@ -1,12 +1,13 @@
 -- Laws of two lists of bytes: whether they are the same, and where they first differ.
 -- Assumes nothing.
-use Prim.Native.Nat.{ℕ, zero, suc, _≤_, _<_}
-use mathlib.Core.Path.{_≡_, refl, sym, ap}
+use Prim.Native.Nat.{ℕ, suc, _<_}
+use mathlib.Core.Path.{_≡_, refl, sym, _∙_, ap}
 use mathlib.Core.Bool.{Bool, true, false, cond, true≢false}
 use mathlib.Core.List.{List, [], _∷_}
 use native.Mathlib.Omega.{arith}
 use lib.Dec.{eqb}
-use lib.ListN.{length, take, getD}
+use lib.ListN.{getD}
+use lib.Seq.{getD-take}
 use borrow.Author.Tests.{eqb-true, eqb-false, eq-eqb, ne-eqb}
 use Rattle.spec.specs.Bytes.{sameBytes, difference}
 use Rattle.spec.specs.Differing.{FirstDifference}
@@ -60,3 +61,11 @@ difference-first (x ∷ xs) (y ∷ ys) = go (eqb x y) refl (difference-first xs 
         let q = d .before in
         record { in-first = omega arith; in-second = omega arith; before = cc; there = λ h k. d .there (omega arith) (omega arith) }
     go false e d = record { in-first = omega arith; in-second = omega arith; before = refl; there = λ h k. eqb-false x y e }
+
+-- no other place is the first
+pub first-unique : (xs ys : List ℕ) (m n : ℕ) → FirstDifference xs ys m → FirstDifference xs ys n → m ≡ n
+first-unique xs ys m n a b = omega (arith, not-below m n a b, not-below n m b a)
+  where
+    not-below : (m n : ℕ) → FirstDifference xs ys m → FirstDifference xs ys n → m < n → ⊥
+    not-below m n a b h =
+        a .there (omega (arith, b .in-first)) (omega (arith, b .in-second)) (sym (getD-take n xs m 0 h) ∙ ap (λ l. getD l m 0) (b .before) ∙ getD-take n ys m 0 h)

@@ -15,7 +15,7 @@ use Rattle.spec.specs.Walk.{reads, most}
 use Rattle.spec.specs.Canonical.{copyLength, canonicalCopy}
 use Rattle.spec.specs.Differences.{Entry, entryBytes, unless, sameBody, sameChannel, sameOwn, sameHeader, alone, fileEntries, channelEntries, recordEntries, groupEntries, groupsAlone, groupsEntries, differences, listLength, listBytes}
 use Rattle.spec.specs.Call.{copying, copied, copyOutcome, Pair, comparing, compared, compareOutcome}
-use Rattle.spec.specs.Demand3.{Copyable, Room, copyIn, Same}
+use Rattle.spec.specs.Demand3.{Copyable, Room}
 use Rattle.spec.specs.Differing.{DifferenceIsTheFirst, NoDifferenceExactlyWhenEqual, ListIsSymmetric, ListHasTheLength, ListIsBytes, CompareSucceeds, CompareNeedsRoom, ListIsEmptyExactlyWhenReadingsAreEqual, NoDifferenceExactlyWhenCopiesAreEqual, ListIsEmptyExactlyWhenCopiesAreEqual}
 use Rattle.spec.proofs.Answers.{step, pass, stop, fail, both, Gives, gives, bind, test}
 use Rattle.spec.proofs.Bytes.{eqb-turned, same-refl, same-equal, same-turned, difference-turned, difference-first}
@@ -27,17 +27,17 @@ difference-is-the-first = difference-first
 
 -- ---- the tests tell whether two parts are equal
 
-body-true : (x y : Body) → sameBody x y ≡ true → x ≡ y
+pub body-true : (x y : Body) → sameBody x y ≡ true → x ≡ y
 body-true none none e = refl
 body-true none (some y) e = absurd (true≢false (sym e))
 body-true (some x) none e = absurd (true≢false (sym e))
 body-true (some x) (some y) e = ap some (same-equal x y e)
 
-body-same : (x : Body) → sameBody x x ≡ true
+pub body-same : (x : Body) → sameBody x x ≡ true
 body-same none = refl
 body-same (some x) = same-refl x
 
-channel-true : (c d : Channel) → sameChannel c d ≡ true → c ≡ d
+pub channel-true : (c d : Channel) → sameChannel c d ≡ true → c ≡ d
 unfolding sameChannel
 channel-true c d e =
     let h₁ = both _ _ e in
@@ -63,7 +63,7 @@ channel-true c d e =
       displayName = p₅ i;
     }
 
-channel-same : (c : Channel) → sameChannel c c ≡ true
+pub channel-same : (c : Channel) → sameChannel c c ≡ true
 unfolding sameChannel
 channel-same c = simp (same-refl, body-same)
 

@@ -12,6 +12,8 @@ pub mod CopyBytes
 pub mod Demand3
 pub mod Differing
 pub mod EntryOrder
+pub mod Due
+pub mod EntryFits
 pub mod Examples
 pub mod Facts
 pub mod Signs

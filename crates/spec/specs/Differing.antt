@@ -1,18 +1,18 @@
--- What the difference list owes: it is empty exactly when the readings are equal, its entries are in order, and each has 16 bytes. Statements only; docs/RULES.md, 12.
--- Proofs: proofs/Differing.antt and proofs/EntryOrder.antt.
+-- What the difference list owes: just the entries that are due, in order, 16 bytes each; none exactly when the readings are equal. Statements only; docs/RULES.md, 12.
+-- Proofs: proofs/Differing.antt; for the order EntryOrder.antt, for the entries that are due Due.antt, for numbers that fit EntryFits.antt.
 -- Assumes nothing.
-use Prim.Native.Nat.{ℕ, _≤_, _<_}
+use Prim.Native.Nat.{ℕ, _+_, _≤_, _<_}
 use mathlib.Core.Path.{_≡_}
-use mathlib.Core.Logic.{_↔_}
-use mathlib.Core.List.{List, [], _∷_, _++_}
-use mathlib.Core.Option.{none, some}
-use lib.ListN.{length, take, drop, getD}
-use Rattle.spec.specs.Bytes.{All, Bytes, difference}
+use mathlib.Core.Logic.{_↔_, _⊎_}
+use mathlib.Core.List.{List, [], _∷_, _++_, List·Memᴰ}
+use mathlib.Core.Option.{Option, none, some}
+use lib.ListN.{length, take, drop, getD, getElem?}
+use Rattle.spec.specs.Bytes.{All, Bytes, difference, u16, u32}
 use Rattle.spec.specs.Answer.{accepted}
-use Rattle.spec.specs.Reading.{Reading}
+use Rattle.spec.specs.Reading.{Channel, Group, Reading}
 use Rattle.spec.specs.Walk.{reads, most}
 use Rattle.spec.specs.Canonical.{canonicalCopy}
-use Rattle.spec.specs.Differences.{Entry, differences, listLength, listBytes}
+use Rattle.spec.specs.Differences.{Entry, entry, entryBytes, differences, listLength, listBytes}
 use Rattle.spec.specs.Call.{copyOutcome, compareOutcome}
 use Rattle.spec.specs.Demand3.{Copyable, copyIn, Same}
 
@@ -27,6 +27,48 @@ pub record FirstDifference (xs ys : List ℕ) (n : ℕ) : Type 0 where
 
 abbrev pub DifferenceIsTheFirst : Type 0
 DifferenceIsTheFirst = (xs ys : List ℕ) → FirstDifference xs ys (difference xs ys)
+
+-- ---- which entries are due, item by item
+
+-- 1: ID, HD fields, comment, program
+abbrev pub FileDue : Reading → Reading → Entry → Type 0
+FileDue r s e =
+    ((r .ident ≡ s .ident → ⊥) × (e ≡ entry 1 0 0 0))
+    ⊎ (((r .plain ≡ s .plain) × (r .later ≡ s .later) → ⊥) × (e ≡ entry 1 0 1 0))
+    ⊎ ((r .comment ≡ s .comment → ⊥) × (e ≡ entry 1 0 2 0))
+    ⊎ ((r .program ≡ s .program → ⊥) × (e ≡ entry 1 0 3 0))
+
+-- 3, of a group's own fields and comment
+abbrev pub OwnDue : ℕ → Group → Group → Entry → Type 0
+OwnDue g p q e = ((p .recordSize ≡ q .recordSize) × (p .comment ≡ q .comment) → ⊥) × (e ≡ entry 3 g 0 0)
+
+-- 3, of a channel, also of one that one file alone has; i is its item
+abbrev pub ChannelDue : ℕ → ℕ → Option Channel → Option Channel → Entry → Type 0
+ChannelDue g i c d e = (c ≡ d → ⊥) × (e ≡ entry 3 g i 0)
+
+-- 5 of a record that one file alone has, else 4
+abbrev pub RecordDue : ℕ → ℕ → Option (List ℕ) → Option (List ℕ) → Entry → Type 0
+RecordDue g i none none e = ⊥
+RecordDue g i none (some y) e = e ≡ entry 5 g i 0
+RecordDue g i (some x) none e = e ≡ entry 5 g i 0
+RecordDue g i (some x) (some y) e = (x ≡ y → ⊥) × (b : ℕ) × FirstDifference x y b × (e ≡ entry 4 g i b)
+
+-- 2 of a group that one file alone has, else those of its parts
+abbrev pub GroupDue : ℕ → Option Group → Option Group → Entry → Type 0
+GroupDue g none none e = ⊥
+GroupDue g none (some q) e = e ≡ entry 2 g 0 0
+GroupDue g (some p) none e = e ≡ entry 2 g 0 0
+GroupDue g (some p) (some q) e =
+    OwnDue g p q e
+    ⊎ ((c : ℕ) × ChannelDue g (c + 1) (getElem? (p .channels) c) (getElem? (q .channels) c) e)
+    ⊎ ((i : ℕ) × RecordDue g i (getElem? (p .records) i) (getElem? (q .records) i) e)
+
+abbrev pub Due : Reading → Reading → Entry → Type 0
+Due r s e = FileDue r s e ⊎ ((g : ℕ) × GroupDue g (getElem? (r .groups) g) (getElem? (s .groups) g) e)
+
+-- the list has these and no others
+abbrev pub EntriesAreThoseDue : Type 0
+EntriesAreThoseDue = (r s : Reading) (e : Entry) → List·Memᴰ e (differences r s) ↔ Due r s e
 
 -- ---- the list
 
@@ -47,9 +89,37 @@ NoDifferenceExactlyWhenEqual = (r s : Reading) → (differences r s ≡ []) ↔ 
 abbrev pub EntriesAreOrdered : Type 0
 EntriesAreOrdered = (r s : Reading) → Ordered (differences r s)
 
+-- no other list in this order has the entries that are due
+abbrev pub ListIsDetermined : Type 0
+ListIsDetermined = (r s : Reading) (es : List Entry) → Ordered es → ((e : Entry) → List·Memᴰ e es ↔ Due r s e) → es ≡ differences r s
+
 -- it does not count which file is the first
 abbrev pub ListIsSymmetric : Type 0
 ListIsSymmetric = (r s : Reading) → differences r s ≡ differences s r
+
+-- ---- its bytes
+
+-- an entry whose numbers fit their 2 and 4 bytes
+pub record Fits (e : Entry) : Type 0 where
+  pub kind : e .kind < 65536
+  pub group : e .group < 4294967296
+  pub item : e .item < 4294967296
+  pub byte : e .byte < 4294967296
+
+abbrev pub EntriesFit : Type 0
+EntriesFit =
+    (a b : List ℕ) (r s : Reading) → Bytes a → Bytes b → reads a ≡ accepted r → reads b ≡ accepted s → (e : Entry) → List·Memᴰ e (differences r s) → Fits e
+
+-- so they are read from its bytes: a UINT16, two zero bytes, three UINT32
+abbrev pub EntryIsReadBack : Type 0
+EntryIsReadBack =
+    (e : Entry)
+    → Fits e
+    → (u16 0 (entryBytes e) ≡ e .kind)
+    × (u16 2 (entryBytes e) ≡ 0)
+    × (u32 4 (entryBytes e) ≡ e .group)
+    × (u32 8 (entryBytes e) ≡ e .item)
+    × (u32 12 (entryBytes e) ≡ e .byte)
 
 abbrev pub ListHasTheLength : Type 0
 ListHasTheLength = (r s : Reading) → length (listBytes r s) ≡ listLength r s
