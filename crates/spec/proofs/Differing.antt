@@ -1,4 +1,4 @@
--- The proofs of specs/Differing.antt, but for the order of the entries, which is in proofs/EntryOrder.antt.
+-- The proofs of specs/Differing.antt; those of the order, of the entries that are due and of numbers that fit stand in EntryOrder.antt, Due.antt and EntryFits.antt.
 -- Assumes nothing.
 use Prim.Native.Nat.{ℕ, suc, _*_, _≤_}
 use mathlib.Core.Path.{_≡_, refl, sym, _∙_, ap, subst}
