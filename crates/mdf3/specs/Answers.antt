@@ -5,7 +5,7 @@ use mathlib.Core.List.{List, _++_}
 use mathlib.Core.Option.{Option, none, some}
 use lib.Ieee.{Float, binary64, toBits}
 use Rattle.answers.specs.Readings.{bytesOf}
-use Rattle.answers.specs.Outcomes.{Outcome, checkOutcome, copyOutcome}
+use Rattle.answers.specs.Outcomes.{Outcome, checkOutcome, copyOutcome, compareOutcome}
 use Rattle.answers.specs.Samples.{Stored, unsigned, signed, single, double, part, twos, sampleOutcome, physicalOutcome}
 
 -- place, value, length, kind; what does not apply is 0
@@ -32,6 +32,13 @@ copyNumber image out = copyOutcome image out .given .number
 
 unfoldable pub copyAnswer : List ℕ → List ℕ → List ℕ
 copyAnswer image out = lengthAnswer (copyOutcome image out .given)
+
+-- compare gives a place, or the length of the list
+unfoldable pub compareNumber : List ℕ → List ℕ → List ℕ → ℕ
+compareNumber first second out = compareOutcome first second out .given .number
+
+unfoldable pub compareAnswer : List ℕ → List ℕ → List ℕ → List ℕ
+compareAnswer first second out = lengthAnswer (compareOutcome first second out .given)
 
 -- sample gives a place, or the sample: its kind; as value its bits, a signed number's in 64; of text and bytes the place in the image, and the length
 abbrev pub kindOf : Stored → ℕ

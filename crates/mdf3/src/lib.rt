@@ -1,5 +1,6 @@
 // The calls for C programs: include/mdf3.h declares them. Number and place of a refusal are called otherwise in each, so
 // that a must-fail edit, which goes by one line, can name them.
+use compare::Compared;
 use copy::Copied;
 use physical::PhysicalAnswer;
 use reading::Access;
@@ -7,9 +8,9 @@ use stored::Stored;
 use stored::StoredAnswer;
 ghost use mathlib.Core.Path.{_≡_};
 ghost use Rattle.answers.specs.Readings.{bytesOf};
-ghost use Rattle.answers.specs.Outcomes.{copyOutcome};
+ghost use Rattle.answers.specs.Outcomes.{copyOutcome, compareOutcome};
 ghost use Rattle.stored.specs.Stored.{storedOf, SignedFits};
-ghost use Rattle.mdf3.specs.Answers.{answerBytes, checkNumber, checkAnswer, copyNumber, copyAnswer, storedBytes, sampleNumber, sampleAnswer, physicalNumber, physicalAnswer};
+ghost use Rattle.mdf3.specs.Answers.{answerBytes, checkNumber, checkAnswer, copyNumber, copyAnswer, compareNumber, compareAnswer, storedBytes, sampleNumber, sampleAnswer, physicalNumber, physicalAnswer};
 
 // A number as 8 bytes, little endian.
 fn word(x: u64) -> [u8; 8]
@@ -131,6 +132,30 @@ fn sample_bytes(s: Stored) -> [u8; 32]
         Stored::Single(n) => answer_bytes(0, wide(n), 0, 3),
         Stored::Double(n) => answer_bytes(0, n, 0, 4),
         Stored::Part(at, n) => answer_bytes(0, at as u64, n as u64, 5),
+    }
+}
+
+// The list of the differences of two images in the output: the number is returned, the answer holds the place, or the length of the list as its value.
+#[no_mangle]
+pub extern "C" fn mdf3_compare(
+    first: &[u8],
+    second: &[u8],
+    out: &mut [u8],
+    answer: &mut [u8; 32],
+) -> u32
+    ensures { λ r. ⌜ (r ≡ compareNumber (now (first .entry)) (now (second .entry)) (now (out .entry)))
+        × (now (answer .exit) ≡ compareAnswer (now (first .entry)) (now (second .entry)) (now (out .entry)))
+        × (now (out .exit) ≡ compareOutcome (now (first .entry)) (now (second .entry)) (now (out .entry)) .memory) ⌝ }
+{
+    match compare::compare(first, second, out) {
+        Compared::Written(length) => {
+            *answer = answer_bytes(0, length as u64, 0, 0);
+            0
+        }
+        Compared::Refused(refusal, position) => {
+            *answer = answer_bytes(position as u64, 0, 0, 0);
+            refusal
+        }
     }
 }
 
