@@ -5,22 +5,26 @@
  * numbers below and fills an answer of 32 bytes. No call keeps a pointer,
  * allocates memory, reads a clock or a file, or has a state: calls from
  * several threads at once are fine as long as no memory that one of them
- * writes is used by another. Every call checks the whole image, so reading a
- * channel record by record costs a check of the file for each record.
+ * writes is used by another. Every call checks the whole image, mdf3_compare
+ * both, so reading a channel record by record costs a check of the file for
+ * each record.
  *
  * What the caller must keep, for each call:
  *   - image points to image_len bytes that can be read, and that nobody
  *     changes before the call returns. image_len is at most SIZE_MAX / 2.
  *     Where image_len is 0 nothing is read through image; it may point
- *     anywhere, and must not be NULL.
+ *     anywhere, and must not be NULL. The same holds for first and second,
+ *     the two images of mdf3_compare, each with its own length.
  *   - out, where a call has it, points to out_len bytes that can be written
  *     and that nobody else uses before the call returns. out_len is at most
  *     SIZE_MAX / 2. Where it is 0 nothing is read or written through out;
  *     it may point anywhere, and must not be NULL.
  *   - answer points to 32 bytes that can be written, and that nobody else
  *     uses before the call returns.
- *   - image, out and answer do not overlap each other. None of them has to be
- *     aligned.
+ *   - image, out and answer do not overlap each other. Neither out nor answer
+ *     overlaps one of the two images of mdf3_compare; these are only read, and
+ *     may overlap each other or be the same memory. None of all these has to
+ *     be aligned.
  *   - for mdf3_physical, the floating-point unit is as a program finds it at
  *     its start: it rounds to the nearest, keeps subnormal numbers (no flush
  *     to zero, which -ffast-math sets) and traps nothing.
@@ -35,9 +39,9 @@
 #include <stdint.h>
 #include <string.h>
 
-#define MDF3_VERSION "1.1.0"
+#define MDF3_VERSION "1.2.0"
 /* The same for #if: 10,000 for each major, 100 for each minor number. */
-#define MDF3_VERSION_NUMBER 10100
+#define MDF3_VERSION_NUMBER 10200
 
 #ifdef __cplusplus
 extern "C" {
@@ -46,8 +50,9 @@ extern "C" {
 /* The numbers that calls return. With each the answer holds one place, which
  * is an offset in the image except where another meaning is given. The first
  * fault in the order of section 5.2 of the rules (share/doc/mdf3/RULES.md)
- * decides, and there is never more than one. Check gives 0 to 11, copy 0 to
- * 13, a sample 0 to 11, 14 and 15, a physical value these and 16. */
+ * decides, and there is never more than one; of two images the first one's
+ * comes before the second's. Check gives 0 to 11, copy and compare 0 to 13, a
+ * sample 0 to 11, 14 and 15, a physical value these and 16. */
 
 /* Done. Place 0. */
 #define MDF3_OK 0
@@ -94,10 +99,11 @@ extern "C" {
  * such record counts. Where it is missing, its place can be the length of the
  * image or more. */
 #define MDF3_RECORD 11
-/* The canonical copy would be longer than 2,147,483,647 bytes. Place 0. */
+/* The canonical copy, of mdf3_compare the difference list, would be longer than
+ * 2,147,483,647 bytes. Place 0. */
 #define MDF3_COPY_TOO_LONG 12
-/* The output is shorter than the canonical copy: the length needed stands in
- * the place. */
+/* The output is shorter than the canonical copy, or than the difference list:
+ * the length needed stands in the place. */
 #define MDF3_NO_ROOM 13
 /* No such channel group, no such channel of it or no such record of it.
  * Place 0. It is the same number for all three: at record 0 it can be any of
@@ -202,6 +208,100 @@ uint32_t mdf3_check(const uint8_t *image, size_t image_len, uint8_t answer[MDF3_
  */
 uint32_t mdf3_copy(const uint8_t *image, size_t image_len, uint8_t *out, size_t out_len,
                    uint8_t answer[MDF3_ANSWER_SIZE]);
+
+/* An entry of a difference list: 16 bytes, each number with its lowest byte
+ * first. Entries stand one behind the other, with nothing before or behind.
+ *
+ *   offset  0  the kind, 2 bytes     mdf3_entry_kind(entry)
+ *   offset  2  two bytes, 0
+ *   offset  4  the group, 4 bytes    mdf3_entry_group(entry)
+ *   offset  8  the item, 4 bytes     mdf3_entry_item(entry)
+ *   offset 12  the byte, 4 bytes     mdf3_entry_byte(entry)
+ *
+ * A number that a kind does not use is 0.
+ */
+#define MDF3_ENTRY_SIZE 16
+
+/* A part of the file outside all groups: the item is one of the four below. */
+#define MDF3_ENTRY_FILE 1
+/* A group that one of the two alone has. It has no other entry. */
+#define MDF3_ENTRY_LONE_GROUP 2
+/* In a group that both have: item 0 is its record size and comment, item c + 1
+ * its channel c, which differs or which one of the two alone has. */
+#define MDF3_ENTRY_GROUP 3
+/* A record that both have: the item is its number, and the byte where the two
+ * differ first, counted from 0 in the record. Where the shorter is a beginning
+ * of the longer, that is the shorter's length. */
+#define MDF3_ENTRY_RECORD 4
+/* A record, of a group that both have, that one of the two alone has: the item
+ * is its number. */
+#define MDF3_ENTRY_LONE_RECORD 5
+
+/* The items of MDF3_ENTRY_FILE: the 64 bytes of the identification block; the
+ * header's fields, from version 320 on with those that came then; the file's
+ * comment; its program block. */
+#define MDF3_ITEM_ID 0
+#define MDF3_ITEM_HEADER 1
+#define MDF3_ITEM_COMMENT 2
+#define MDF3_ITEM_PROGRAM 3
+
+/* One of these numbers, by its offset and how many bytes it has. */
+static inline uint32_t mdf3_entry_number(const uint8_t entry[MDF3_ENTRY_SIZE], size_t offset, size_t width)
+{
+    uint32_t x = 0;
+    for (size_t i = width; i > 0; i--)
+        x = x << 8 | entry[offset + i - 1];
+    return x;
+}
+
+static inline uint32_t mdf3_entry_kind(const uint8_t entry[MDF3_ENTRY_SIZE])
+{
+    return mdf3_entry_number(entry, 0, 2);
+}
+
+static inline uint32_t mdf3_entry_group(const uint8_t entry[MDF3_ENTRY_SIZE])
+{
+    return mdf3_entry_number(entry, 4, 4);
+}
+
+static inline uint32_t mdf3_entry_item(const uint8_t entry[MDF3_ENTRY_SIZE])
+{
+    return mdf3_entry_number(entry, 8, 4);
+}
+
+static inline uint32_t mdf3_entry_byte(const uint8_t entry[MDF3_ENTRY_SIZE])
+{
+    return mdf3_entry_number(entry, 12, 4);
+}
+
+/* Writes the difference list of two images to out, which has room for out_len
+ * bytes: returns 0, or 1 to 13. Neither image need have been checked before.
+ *
+ * Done: the list stands at the start of out, what lies behind it there is left
+ * as it was, and the value is its length, 16 for each entry. It is 0 exactly
+ * when the two images say the same, whatever their layout; then no room is
+ * needed. Otherwise there is one entry for each item that differs, in the order
+ * of group, kind and item; those of kind 1 have group 0. Groups, channels and
+ * records are counted from 0, as for mdf3_sample. Refused: no byte of out is
+ * touched, and the value is 0. The answer holds the place; with 13 that is the
+ * length needed. Length and kind are 0. A call without room asks how much to
+ * make:
+ *
+ *   uint8_t answer[MDF3_ANSWER_SIZE], none;
+ *   uint32_t number = mdf3_compare(first, first_len, second, second_len, &none, 0, answer);
+ *
+ * MDF3_OK: they say the same. MDF3_NO_ROOM: they differ, and the place is the
+ * length of the list. MDF3_COPY_TOO_LONG: they differ too, in more than
+ * 134,217,727 items. Any other number refuses one of the images; 1 to 11 for
+ * the first come before 1 to 11 for the second. Which one it was is not told:
+ * it was the first where mdf3_check of it alone gives another number than 0,
+ * and else the second. Number and place are those that mdf3_check gives.
+ *
+ * In which of the two a lone item is, is not told either: in the one that has
+ * more groups, more channels in the group, or more records in it.
+ */
+uint32_t mdf3_compare(const uint8_t *first, size_t first_len, const uint8_t *second, size_t second_len, uint8_t *out,
+                      size_t out_len, uint8_t answer[MDF3_ANSWER_SIZE]);
 
 /* The kinds of sample. */
 #define MDF3_UNSIGNED 1

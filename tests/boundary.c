@@ -158,7 +158,7 @@ static void try_file(const char *name)
     free(bytes);
 }
 
-/* ---- the numbers of an answer, as the header reads them */
+/* ---- the numbers of an answer and of an entry, as the header reads them */
 
 static void try_readers(void)
 {
@@ -168,6 +168,15 @@ static void try_readers(void)
         || mdf3_length(answer) != 9 || mdf3_kind(answer) != UINT64_C(0x8000000000000004) || mdf3_double(answer) != -1.5)
         fail("readers");
     compared += 5;
+}
+
+static void try_entry_readers(void)
+{
+    static const uint8_t entry[MDF3_ENTRY_SIZE] = {1, 0x82, 3, 4, 5, 6, 7, 0x88, 9, 10, 11, 0x8C, 13, 14, 15, 0x90};
+    if (mdf3_entry_kind(entry) != 0x8201 || mdf3_entry_group(entry) != UINT32_C(0x88070605)
+        || mdf3_entry_item(entry) != UINT32_C(0x8C0B0A09) || mdf3_entry_byte(entry) != UINT32_C(0x900F0E0D))
+        fail("readers of entries");
+    compared += 4;
 }
 
 /* ---- no bytes: nothing is read or written through such pointers */
@@ -206,6 +215,7 @@ int main(int argc, char **argv)
     if (first >= argc)
         fail("no files");
     try_readers();
+    try_entry_readers();
     try_nothing();
     for (int i = first; i < argc; i++)
         try_file(argv[i]);
