@@ -31,7 +31,8 @@ build/libmdf3.a: crates.txt $(shell find crates -type f)
 	@rt staticlib mdf3 >build/rt.log 2>&1 || { cat build/rt.log >&2; exit 1; }
 	@cp target/staticlib/libmdf3.a $@
 
-build/mdf3: $(SOURCES) $(wildcard tool/*.h) include/mdf3.h build/libmdf3.a
+# all of tool/, its man page too: install looks whether something there is younger
+build/mdf3: $(wildcard tool/*) include/mdf3.h build/libmdf3.a
 	$(CC) $(WARNINGS) $(CFLAGS) $(LDFLAGS) -Iinclude $(SOURCES) build/libmdf3.a -o $@
 
 build/$(SHARED): build/libmdf3.a
