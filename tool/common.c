@@ -22,6 +22,13 @@ int complain_of(const char *name, const char *what)
     return complain(name, what, errno == 0 ? NULL : strerror(errno));
 }
 
+int complain_refused(const char *name, uint32_t number, uint64_t place)
+{
+    char what[200];
+    snprintf(what, sizeof what, "%" PRIu32 " %" PRIu64 " %s", number, place, in_words(number, place));
+    return complain(name, what, NULL);
+}
+
 void print_line(const char *name, uint32_t number, uint64_t place)
 {
     print_name(stdout, name);

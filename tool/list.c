@@ -1,58 +1,27 @@
 /* What a file holds, taken from its canonical copy: there DG, CG and CN blocks hold all their fields, a conversion its unit, and
  * every link leads to a block that is there whole. */
-#include "mdf3.h"
+#include "blocks.h"
 #include "tool.h"
 #include "words.h"
 
 #include <stdio.h>
-#include <string.h>
-
-static unsigned u16(const struct file *f, size_t at)
-{
-    return f->bytes[at] + 256u * f->bytes[at + 1];
-}
-
-static uint32_t u32(const struct file *f, size_t at)
-{
-    return u16(f, at) + 65536u * u16(f, at + 2);
-}
-
-/* A body behind a link field: its bytes after the block's head; NULL behind a nil link. */
-static const uint8_t *body(const struct file *f, size_t field, size_t *length)
-{
-    size_t at = u32(f, field);
-    *length = at == 0 ? 0 : u16(f, at + 2) - 4u;
-    return at == 0 ? NULL : f->bytes + at + 4;
-}
-
-/* The long name where there is one, else the short one. */
-static void print_channel_name(const struct file *f, size_t cn)
-{
-    size_t length;
-    const uint8_t *name = body(f, cn + 218, &length);
-    if (name == NULL || length == 0 || name[0] == 0) {
-        name = f->bytes + cn + 26;
-        length = 32;
-    }
-    print_text(stdout, name, length);
-}
 
 /* A conversion holds the unit at 22, in 20 bytes. */
 static void print_unit(const struct file *f, size_t cn)
 {
-    size_t length;
-    const uint8_t *cc = body(f, cn + 8, &length);
-    if (cc == NULL || cc[22 - 4] == 0)
+    struct part cc = body(block_at(f, cn), 8);
+    if (cc.bytes == NULL || cc.bytes[22 - 4] == 0)
         return;
     printf(", unit ");
-    print_text(stdout, cc + 22 - 4, 20);
+    print_text(stdout, cc.bytes + 22 - 4, 20);
 }
 
 static void list_channel(const struct file *f, size_t cn, unsigned number)
 {
     unsigned bits = u16(f, cn + 188);
+    struct part name = channel_name(f, cn);
     printf("  channel %u: ", number);
-    print_channel_name(f, cn);
+    print_text(stdout, name.bytes, name.length);
     printf(", %s, %u bit%s", type_name(u16(f, cn + 190)), bits, plural(bits));
     print_unit(f, cn);
     printf("%s\n", u16(f, cn + 24) == 1 ? ", time channel" : "");

@@ -1,4 +1,4 @@
-/* mdf3: MDF 3 files checked, copied, listed and read from the command line. */
+/* mdf3: MDF 3 files checked, copied, compared, listed and read from the command line. */
 #define _XOPEN_SOURCE 700
 #include "mdf3.h"
 #include "tool.h"
@@ -14,6 +14,7 @@
 static const char usage[] =
     "usage: mdf3 check FILE...                       is each file accepted?\n"
     "       mdf3 copy FILE OUT                       write its canonical copy\n"
+    "       mdf3 compare [-q] FILE FILE              what differs between two files?\n"
     "       mdf3 list FILE                           its groups and channels\n"
     "       mdf3 sample FILE GROUP CHANNEL RECORD    one sample, raw and physical\n"
     "       mdf3 --help\n"
@@ -24,20 +25,25 @@ static const char help[] =
     "FILE is an MDF 3 file (versions 3.00 to 3.99), - for standard input. Groups, channels and records count from 0, as list\n"
     "shows them. A line of an answer has a number and a place: 0 0, or why the file is refused and at which byte. OUT is\n"
     "written whole or not at all, never where it is FILE, and cannot be -. Behind a -- names may begin with -.\n"
+    "compare prints one line for each difference and how many there are, with -q nothing.\n"
     "\n"
-    "Exit status: 0 done, 1 refused, 2 trouble with an argument, a file, memory or the disk.\n";
+    "Exit status: 0 done, 1 refused, 2 trouble with an argument, a file, memory or the disk.\n"
+    "Of compare: 0 both files say the same, 1 they differ, 2 trouble, or one of them is refused.\n";
 
 struct command {
     const char *name, *takes;
     int least, most; /* arguments */
     int (*run)(int count, char **words);
+    int (*quietly)(int count, char **words); /* with -q; NULL where there is no such option */
 };
 
-static const struct command commands[4] = {
-    {"check", "takes one FILE or more", 1, INT_MAX, check_command},
-    {"copy", "takes FILE OUT", 2, 2, copy_command},
-    {"list", "takes one FILE", 1, 1, list_command},
-    {"sample", "takes FILE GROUP CHANNEL RECORD", 4, 4, sample_command},
+#define COMMANDS 5
+static const struct command commands[COMMANDS] = {
+    {"check", "takes one FILE or more", 1, INT_MAX, check_command, NULL},
+    {"copy", "takes FILE OUT", 2, 2, copy_command, NULL},
+    {"compare", "takes two FILEs", 2, 2, compare_command, compare_quietly},
+    {"list", "takes one FILE", 1, 1, list_command, NULL},
+    {"sample", "takes FILE GROUP CHANNEL RECORD", 4, 4, sample_command, NULL},
 };
 
 static int wrong(const char *word, const char *what)
@@ -57,7 +63,7 @@ static int tell_help(void)
 /* The arguments are what is left without the options. */
 static int run(const struct command *c, int count, char **words)
 {
-    int left = 0, ended = 0;
+    int left = 0, ended = 0, quiet = 0;
     for (int i = 0; i < count; i++) {
         if (ended || words[i][0] != '-' || words[i][1] == '\0')
             words[left++] = words[i];
@@ -65,12 +71,14 @@ static int run(const struct command *c, int count, char **words)
             ended = 1;
         else if (strcmp(words[i], "--help") == 0)
             return tell_help();
+        else if (strcmp(words[i], "-q") == 0 && c->quietly != NULL)
+            quiet = 1;
         else
             return wrong(words[i], "no such option");
     }
     if (left < c->least || left > c->most)
         return wrong(c->name, c->takes);
-    return c->run(left, words);
+    return quiet ? c->quietly(left, words) : c->run(left, words);
 }
 
 static int start(int count, char **words)
@@ -83,7 +91,7 @@ static int start(int count, char **words)
         printf("mdf3 %s\n", MDF3_VERSION);
         return DONE;
     }
-    for (int i = 0; i < 4; i++)
+    for (int i = 0; i < COMMANDS; i++)
         if (strcmp(words[0], commands[i].name) == 0)
             return run(&commands[i], count - 1, words + 1);
     return wrong(words[0], words[0][0] == '-' ? "no such option" : "no such command");
