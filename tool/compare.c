@@ -1,7 +1,7 @@
 /* What differs between two files: the library's difference list, in words. It names neither channels nor the file that has
  * an item alone; both are looked up in the files themselves, which are accepted then. */
-#include "mdf3.h"
 #include "layout.h"
+#include "mdf3.h"
 #include "parts.h"
 #include "tool.h"
 #include "words.h"
