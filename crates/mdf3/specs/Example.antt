@@ -10,9 +10,9 @@ use lib.ListN.{replicate}
 use lib.IntN.{pos}
 use lib.Ieee.{fin}
 use Rattle.answers.specs.Readings.{join}
-use Rattle.answers.specs.Outcomes.{checkOutcome}
+use Rattle.answers.specs.Outcomes.{Outcome, checkOutcome, compareOutcome}
 use Rattle.answers.specs.Samples.{unsigned, signed, single, double, part}
-use Rattle.mdf3.specs.Answers.{answerBytes, checkAnswer, lengthAnswer, storedBytes, answered, physicalBytes}
+use Rattle.mdf3.specs.Answers.{answerBytes, checkAnswer, lengthAnswer, compareNumber, compareAnswer, storedBytes, answered, physicalBytes}
 
 -- eight bytes that begin with these two, and go on with zeros
 abbrev pub word : ℕ → ℕ → List ℕ
@@ -38,6 +38,10 @@ AnswerExamplesAgree =
     -- copy: a length of 577 as value; refused with 13 it is the place
     × (lengthAnswer (record { number = 0; place = 0; value = some 577 }) ≡ answer zeros8 (word 0x41 2) zeros8 zeros8)
     × (lengthAnswer (record { number = 13; place = 577; value = none }) ≡ answer (word 0x41 2) zeros8 zeros8 zeros8)
+    -- compare: a list of 32 bytes; an image refused with 4 at 28, and a list that finds no room
+    × ((first second out : List ℕ) → compareOutcome first second out .given ≡ record { number = 0; place = 0; value = some 32 } → (compareNumber first second out ≡ 0) × (compareAnswer first second out ≡ answer zeros8 (word 32 0) zeros8 zeros8))
+    × ((first second out : List ℕ) → compareOutcome first second out .given ≡ record { number = 4; place = 28; value = none } → (compareNumber first second out ≡ 4) × (compareAnswer first second out ≡ answer (word 28 0) zeros8 zeros8 zeros8))
+    × ((first second out : List ℕ) → compareOutcome first second out .given ≡ record { number = 13; place = 288; value = none } → (compareNumber first second out ≡ 13) × (compareAnswer first second out ≡ answer (word 32 1) zeros8 zeros8 zeros8))
     -- samples, kinds 1 to 5: unsigned 513, signed -8 in 4 bits, 1.5 in 32 bits, 40.0 in 64 bits, two bytes from 515 on
     × (storedBytes (unsigned 513) ≡ answer zeros8 (word 1 2) zeros8 (word 1 0))
     × (storedBytes (signed 4 0b1000) ≡ answer zeros8 (0xF8 ∷ replicate 7 0xFF) zeros8 (word 2 0))
