@@ -24,8 +24,8 @@ enum who { LIBRARY, SEARCH, TABLE, SECOND, MEMCPY, READ, ALL };
 
 enum call { CHECK, COPY, SAMPLE };
 
-static const struct calls library = {mdf3_check, mdf3_copy, mdf3_sample, mdf3_physical};
-static const struct calls second = {second_check, second_copy, second_sample, second_physical};
+static const struct calls library = {mdf3_check, mdf3_copy, mdf3_sample, mdf3_physical, NULL};
+static const struct calls second = {second_check, second_copy, second_sample, second_physical, NULL};
 static const struct calls *const answering[MEMCPY] = {&library, &by_search, &by_table, &second};
 
 struct file {
