@@ -1,20 +1,24 @@
-//! Images and copies at the greatest length, samples far behind, and empty
-//! parts of memory.
+//! Images, copies and difference lists at the greatest length, samples far
+//! behind, and empty parts of memory.
 
-use second::calls::{find, length_of};
+use second::calls::{find, length_of, reading_of};
 use crate::compare::{self, compare, shown, Answer, Difference, Wanted};
 use crate::output::Output;
 use crate::tally::Tally;
-use crate::{library, report, Options};
+use crate::{library, pairs, report, Options};
 use second::canonical;
+use second::differences;
 use second::make::cases::Known;
-use second::make::long::with_copy_of;
+use second::make::long::{with_copy_of, with_entries};
 use second::make::sheet::Sheet;
 use second::make::signals::{Signal, Signals};
 use second::sample::{self, Asked, Call};
 use std::ptr::NonNull;
 
 const LONGEST: usize = 2_147_483_647;
+/// Entries of the longest list, and its length.
+const MOST_ENTRIES: u64 = 134_217_727;
+const LONGEST_LIST: u64 = 2_147_483_632;
 
 pub fn run(options: &Options) -> Option<Tally> {
     let mut tally = Tally::default();
@@ -22,12 +26,14 @@ pub fn run(options: &Options) -> Option<Tally> {
     let told = |name: &str, compared: Result<(), Difference>| match compared {
         Ok(()) => true,
         Err(difference) => {
-            report(options, name, None, &difference);
+            report(options, name, &[], &difference);
             false
         }
     };
     let right = told("empty memory", empty_memory(&mut tally)) && right;
     let right = told("long output", long_output(&mut tally)) && right;
+    let right = told("lists of shared records", shared_records(&mut tally)) && right;
+    let right = told("long list", long_list(&mut tally)) && right;
     right.then_some(tally)
 }
 
@@ -61,7 +67,7 @@ impl Long<'_> {
         let image = &self.bytes[..length];
         if let Err(difference) = compare(image, &wanted, &mut self.output, self.tally) {
             // Only the written start is kept; the rest is zeros.
-            report(self.options, &name, Some(&image[..file.len()]), &difference);
+            report(self.options, &name, &[&image[..file.len()]], &difference);
             self.right = false;
         }
         self.bytes[..file.len()].fill(0);
@@ -169,7 +175,57 @@ fn long_images(options: &Options, tally: &mut Tally) -> bool {
     last_bytes(&mut long);
     last_samples(&mut long);
     longest_copy(&mut long);
+    long_pairs(&mut long);
     long.right
+}
+
+/// An image that is too long, as the first and as the second one, and one of
+/// the greatest length beside the same file without the zeros behind.
+fn long_pairs(long: &mut Long<'_>) {
+    let small = small_file().0.bytes;
+    let [mut broken, start] = [small.clone(), small.clone()];
+    broken[64] = 0;
+    long.bytes[..start.len()].copy_from_slice(&start);
+    let [longest, longer] = [LONGEST, LONGEST + 1].map(|length| (long.bytes.as_ptr(), length));
+    let [small, broken] = [&small, &broken].map(|image| (image.as_ptr(), image.len()));
+    let mut compared = Ok(());
+    for (first, second, number, place) in [
+        (longest, small, 0, 0),
+        (small, longest, 0, 0),
+        (longest, longest, 0, 0),
+        (longer, small, 1, 0),
+        (small, longer, 1, 0),
+        (longer, longer, 1, 0),
+        (longer, broken, 1, 0),
+        (broken, longer, 5, 64),
+        (longest, broken, 5, 64),
+    ] {
+        let told = told_list(first, second, (number, place), &mut long.output, long.tally);
+        compared = compared.and(told);
+    }
+    if let Err(difference) = compared {
+        report(long.options, "long pairs", &[], &difference);
+        long.right = false;
+    }
+    long.bytes[..start.len()].fill(0);
+}
+
+/// What a call for a list into little room has to tell, which is known.
+fn told_list(
+    first: (*const u8, usize),
+    second: (*const u8, usize),
+    (number, place): Answer,
+    output: &mut Output,
+    tally: &mut Tally,
+) -> Result<(), Difference> {
+    output.prepare(64, 0x3C);
+    let library = library::compare(first, second, output.pointer(), 64);
+    if library != Ok(canonical::Answer { number, place, value: 0 }) || !output.untouched_beyond(0) {
+        let text = format!("{library:?}, expected number {number}, place {place}");
+        return Err(Difference::new("library's list", text));
+    }
+    tally.note_list(number);
+    Ok(())
 }
 
 /// Image and output without a byte, at an address that must not be used.
@@ -190,6 +246,7 @@ fn empty_memory(tally: &mut Tally) -> Result<(), Difference> {
         }
         tally.note_copy(number);
     }
+    empty_pairs(nowhere, &smallest, tally)?;
     let asked = Asked { group: 0, channel: 0, record: 0 };
     let wanted = sample::Answer::refused(2, 0);
     for call in [Call::Sample, Call::Physical] {
@@ -198,6 +255,94 @@ fn empty_memory(tally: &mut Tally) -> Result<(), Difference> {
             return Err(Difference::new("library's sample", format!("{library:?}")));
         }
         tally.note_asked(call, wanted);
+    }
+    Ok(())
+}
+
+/// Lists of images without a byte, and into no output.
+fn empty_pairs(nowhere: *mut u8, small: &[u8], tally: &mut Tally) -> Result<(), Difference> {
+    let nothing = (nowhere as *const u8, 0);
+    let small = (small.as_ptr(), small.len());
+    for (first, second, number) in
+        [(nothing, nothing, 2), (nothing, small, 2), (small, nothing, 2), (small, small, 0)]
+    {
+        let library = library::compare(first, second, nowhere, 0);
+        if library != Ok(canonical::Answer { number, place: 0, value: 0 }) {
+            return Err(Difference::new("library's list", format!("{library:?}")));
+        }
+        tally.note_list(number);
+    }
+    Ok(())
+}
+
+/// Small files with as many differences as can be told, and more: one more,
+/// and so many that the length is 0 in 32 bits.
+fn shared_records(tally: &mut Tally) -> Result<(), Difference> {
+    let mut output = Output::default();
+    for (entries, told) in [
+        (MOST_ENTRIES, (13, LONGEST_LIST)),
+        (MOST_ENTRIES + 1, (12, 0)),
+        (1 << 28, (12, 0)),
+        ((1 << 28) + 1, (12, 0)),
+    ] {
+        let (one, other) = with_entries(entries);
+        let [first, second] = [&one.bytes, &other.bytes].map(|image| (image.as_ptr(), image.len()));
+        told_list(first, second, told, &mut output, tally)?;
+        told_list(second, first, told, &mut output, tally)?;
+        let (one, other) = (find(&one.bytes), find(&other.bytes));
+        let length = differences::length_of(reading_of(&one), reading_of(&other));
+        let second = canonical::answer(length, 64);
+        if (second.number, second.place) != told {
+            return Err(Difference::new("second's list", format!("{second:?}")));
+        }
+    }
+    Ok(())
+}
+
+/// One group with so many records of one byte, all of them the same.
+fn run_of(count: u64, byte: u8) -> (Vec<u8>, usize) {
+    let (mut sheet, link, field) = small_file();
+    sheet.put32(field, count as u32);
+    sheet.put32(link, sheet.len() as u32);
+    let first = sheet.len();
+    sheet.bytes.resize(first + count as usize, byte);
+    (sheet.bytes, first)
+}
+
+/// The longest list: records that differ, then some that one file has. The
+/// first record makes it longer than that.
+fn long_list(tally: &mut Tally) -> Result<(), Difference> {
+    let (one, _) = run_of(MOST_ENTRIES + 1, 0);
+    let (mut other, first) = run_of(100_000_000, 1);
+    let memory = |image: &[u8]| (image.as_ptr(), image.len());
+    let mut output = Output::default();
+    told_list(memory(&one), memory(&other), (12, 0), &mut output, tally)?;
+    other[first] = 0;
+    told_list(memory(&one), memory(&other), (13, LONGEST_LIST), &mut output, tally)?;
+    told_list(memory(&other), memory(&one), (13, LONGEST_LIST), &mut output, tally)?;
+    output.prepare(LONGEST + 1, 0x5A);
+    output.limit(LONGEST_LIST as usize - 1);
+    let length = Ok(LONGEST_LIST);
+    pairs::compare_answer(memory(&one), memory(&other), length, &mut output, tally)?;
+    if !output.untouched_beyond(0) {
+        return Err(Difference::new("refused list", "touched the output"));
+    }
+    output.limit(LONGEST_LIST as usize);
+    pairs::compare_answer(memory(&one), memory(&other), length, &mut output, tally)?;
+    whole_list(&one, &other, &output)
+}
+
+/// A list compared entry by entry.
+fn whole_list(one: &[u8], other: &[u8], output: &Output) -> Result<(), Difference> {
+    let (one, other) = (find(one), find(other));
+    let (mut entries, mut equal) = (output.start(LONGEST_LIST as usize).chunks_exact(16), true);
+    if let (Ok(one), Ok(other)) = (&one, &other) {
+        differences::each(&one.reading, &other.reading, |entry| {
+            equal &= entries.next() == Some(&entry[..]);
+        });
+    }
+    if !equal || entries.next().is_some() || !output.untouched_beyond(LONGEST_LIST as usize) {
+        return Err(Difference::new("long list", "is another"));
     }
     Ok(())
 }

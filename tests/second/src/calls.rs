@@ -2,6 +2,7 @@
 //! finds in an image, and the same functions for C under names of their own.
 
 use crate::canonical;
+use crate::differences;
 use crate::mdf::{self, Refusal};
 use crate::reading::Reading;
 use crate::sample::{self, Asked, Call};
@@ -130,4 +131,41 @@ pub unsafe extern "C" fn second_physical(
     let asked = Asked { group, channel, record };
     // SAFETY: passed on.
     unsafe { ask(Call::Physical, (image, image_len), asked, answer) }
+}
+
+/// As `mdf3_compare`.
+///
+/// # Safety
+/// The caller lends both images, which may overlap each other, and apart
+/// from them the output and an answer of 32 bytes.
+#[no_mangle]
+pub unsafe extern "C" fn second_compare(
+    first: *const u8,
+    first_len: usize,
+    second: *const u8,
+    second_len: usize,
+    out: *mut u8,
+    out_len: usize,
+    answer: *mut u8,
+) -> u32 {
+    // SAFETY: the caller's.
+    let (first, second, out, answer) = unsafe {
+        (
+            from_raw_parts(first, first_len),
+            from_raw_parts(second, second_len),
+            from_raw_parts_mut(out, out_len),
+            from_raw_parts_mut(answer, 32),
+        )
+    };
+    let (first, second) = (find(first), find(second));
+    let length = differences::length_of(reading_of(&first), reading_of(&second));
+    let told = canonical::answer(length, out_len as u64);
+    if let (0, Ok(first), Ok(second)) = (told.number, &first, &second) {
+        let mut places = out.chunks_exact_mut(16);
+        differences::each(&first.reading, &second.reading, |entry| {
+            places.next().expect("there is room").copy_from_slice(&entry);
+        });
+    }
+    write([told.place, told.value, 0, 0], answer);
+    told.number
 }

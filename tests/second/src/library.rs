@@ -39,12 +39,21 @@ extern "C" {
         record: u64,
         answer: *mut u8,
     ) -> u32;
+    fn mdf3_compare(
+        first: *const u8,
+        first_len: usize,
+        second: *const u8,
+        second_len: usize,
+        out: *mut u8,
+        out_len: usize,
+        answer: *mut u8,
+    ) -> u32;
 }
 
 #[cfg(feature = "selfcheck")]
 use second::calls::{
-    second_check as mdf3_check, second_copy as mdf3_copy, second_physical as mdf3_physical,
-    second_sample as mdf3_sample,
+    second_check as mdf3_check, second_compare as mdf3_compare, second_copy as mdf3_copy,
+    second_physical as mdf3_physical, second_sample as mdf3_sample,
 };
 
 /// Lends an answer between two margins to a call; hands back the number and
@@ -83,6 +92,25 @@ pub fn copy(
 ) -> Result<canonical::Answer, String> {
     // SAFETY: the image has `length` bytes, the output `room` and the answer 32.
     let call = |answer| unsafe { mdf3_copy(image, length, out, room, answer) };
+    let (number, parts) = with_answer(call)?;
+    match parts {
+        [place, value, 0, 0] => Ok(canonical::Answer { number, place, value }),
+        _ => Err(format!("number {number}, answer {parts:?}")),
+    }
+}
+
+/// Calls for the difference list and looks at the answer; the output is the
+/// caller's matter.
+pub fn compare(
+    (first, first_len): (*const u8, usize),
+    (second, second_len): (*const u8, usize),
+    out: *mut u8,
+    room: usize,
+) -> Result<canonical::Answer, String> {
+    // SAFETY: images and output have as many bytes as told, the answer 32.
+    let call = |answer| unsafe {
+        mdf3_compare(first, first_len, second, second_len, out, room, answer)
+    };
     let (number, parts) = with_answer(call)?;
     match parts {
         [place, value, 0, 0] => Ok(canonical::Answer { number, place, value }),

@@ -1,8 +1,8 @@
-//! Compares the library's check, copy, sample and physical value with the
-//! second implementation.
+//! Compares the library's check, copy, sample, physical value and difference
+//! list with the second implementation.
 //!
 //! Named cases first, then random images, then random images made for their
-//! samples, then very long images and copies.
+//! samples, then pairs of images, then very long images, copies and lists.
 //! Exit code 0 when all answers agree, 1 at a difference, 2 for wrong
 //! options.
 
@@ -10,6 +10,8 @@ mod big;
 mod compare;
 mod library;
 mod output;
+mod pairing;
+mod pairs;
 mod sampling;
 mod tally;
 
@@ -26,6 +28,10 @@ const DEFAULT_COUNT: u64 = 120_000;
 const DEFAULT_SEED: u64 = 0x4D44_4633;
 const WORKERS: u64 = 2;
 const MOST_TOLD: u64 = 20;
+/// So many pairs of accepted images have to be compared, with entries of
+/// every kind, where the count of random images is not made smaller.
+const LEAST_PAIRS: u64 = 100_000;
+const LEAST_ENTRIES: u64 = 10_000;
 
 pub struct Options {
     count: u64,
@@ -33,17 +39,17 @@ pub struct Options {
     out: PathBuf,
 }
 
-/// Tells of a difference and keeps the image.
-pub fn report(options: &Options, name: &str, image: Option<&[u8]>, difference: &Difference) {
+/// Tells of a difference and keeps the images.
+pub fn report(options: &Options, name: &str, images: &[&[u8]], difference: &Difference) {
     let mut text = format!("DIFFERENCE in {name}\n");
     for (label, value) in &difference.0 {
         text += &format!("  {label}: {value}\n");
     }
-    if let Some(image) = image {
-        let plain: String =
-            name.chars().map(|c| if c.is_ascii_alphanumeric() { c } else { '-' }).collect();
-        let short: String = plain.chars().take(120).collect();
-        let path = options.out.join(format!("second-{short}.mdf"));
+    let plain: String =
+        name.chars().map(|c| if c.is_ascii_alphanumeric() { c } else { '-' }).collect();
+    let short: String = plain.chars().take(120).collect();
+    for (image, end) in images.iter().zip(["", "-other"]) {
+        let path = options.out.join(format!("second-{short}{end}.mdf"));
         match std::fs::write(&path, image) {
             Ok(()) => text += &format!("  image: {}\n", path.display()),
             Err(error) => text += &format!("  image not kept: {error}\n"),
@@ -70,7 +76,7 @@ fn run_named(options: &Options) -> Option<Tally> {
         if let Err(difference) = compared {
             wrong += 1;
             if wrong <= MOST_TOLD {
-                report(options, &case.name, Some(&case.image), &difference);
+                report(options, &case.name, &[&case.image], &difference);
             }
         }
     }
@@ -85,16 +91,17 @@ fn run_drawn(drawn: &Drawn, output: &mut Output, tally: &mut Tally) -> Result<()
     if let Some(kin) = &drawn.kin {
         compare::compare_pair(&drawn.image, kin, drawn.valid, tally)?;
     }
-    Ok(())
+    pairing::with_kin(drawn, output, tally)
 }
 
-/// Random images: what they are called, how many, and how one is drawn from
-/// seed and index.
+/// Random images: what they are called, how many, how one is drawn from seed
+/// and index, and what is done with it.
 #[derive(Clone, Copy)]
 struct Series {
     name: &'static str,
     count: u64,
     draw: fn(u64, u64) -> Drawn,
+    run: fn(&Drawn, &mut Output, &mut Tally) -> Result<(), Difference>,
 }
 
 /// Every `WORKERS`th image from `first` on; stops at a difference.
@@ -104,9 +111,11 @@ fn run_share(options: &Options, series: Series, first: u64, stop: &AtomicBool) -
     let mut index = first;
     while index < series.count && !stop.load(Ordering::Relaxed) {
         let drawn = (series.draw)(options.seed, index);
-        if let Err(difference) = run_drawn(&drawn, &mut output, &mut tally) {
+        if let Err(difference) = (series.run)(&drawn, &mut output, &mut tally) {
             let name = format!("{}, seed {} index {index}", series.name, options.seed);
-            report(options, &name, Some(&drawn.image), &difference);
+            let kin = drawn.kin.as_deref();
+            let images: Vec<&[u8]> = [Some(&drawn.image[..]), kin].into_iter().flatten().collect();
+            report(options, &name, &images, &difference);
             stop.store(true, Ordering::Relaxed);
         }
         index += WORKERS;
@@ -133,14 +142,38 @@ fn run_series(options: &Options, series: Series) -> Option<Tally> {
 }
 
 fn run_random(options: &Options) -> Option<Tally> {
-    let series = Series { name: "random images", count: options.count, draw: make::draw };
+    let count = options.count;
+    let series = Series { name: "random images", count, draw: make::draw, run: run_drawn };
     run_series(options, series)
 }
 
 /// A quarter as many, since each has many samples.
 fn run_signals(options: &Options) -> Option<Tally> {
     let count = options.count / 4;
-    run_series(options, Series { name: "images of signals", count, draw: signals::draw })
+    let series = Series { name: "images of signals", count, draw: signals::draw, run: run_drawn };
+    run_series(options, series)
+}
+
+/// Pairs: of the named cases, named ones, then half as many random ones as
+/// there are random images.
+fn run_pairs(options: &Options) -> Option<Tally> {
+    let mut tally = pairing::run_named(options)?;
+    let count = options.count / 2;
+    let series =
+        Series { name: "random pairs", count, draw: make::pairs::draw, run: pairing::with_kin };
+    tally.add(&run_series(options, series)?);
+    Some(tally)
+}
+
+/// Whether as many pairs were compared as there should be.
+fn enough_pairs(options: &Options, total: &Tally) -> bool {
+    let (pairs, rarest) = total.pairs_listed();
+    let enough = pairs >= LEAST_PAIRS && rarest >= LEAST_ENTRIES;
+    if !enough && options.count >= DEFAULT_COUNT {
+        println!("only {pairs} pairs of accepted images compared, {rarest} entries of a kind");
+        return false;
+    }
+    true
 }
 
 fn read_options() -> Result<Options, String> {
@@ -171,10 +204,11 @@ fn main() -> ExitCode {
     println!("library: {}", library::NAME);
     let mut total = Tally::default();
     type Part = fn(&Options) -> Option<Tally>;
-    let parts: [(&str, Part); 4] = [
+    let parts: [(&str, Part); 5] = [
         ("named", run_named),
         ("random", run_random),
         ("signals", run_signals),
+        ("pairs", run_pairs),
         ("long", big::run),
     ];
     for (label, part) in parts {
@@ -190,5 +224,8 @@ fn main() -> ExitCode {
         tally.print(&format!("{label} ({:.1} s)", begin.elapsed().as_secs_f64()));
     }
     total.print("outcomes");
+    if !enough_pairs(&options, &total) {
+        return ExitCode::from(1);
+    }
     ExitCode::SUCCESS
 }

@@ -1,14 +1,17 @@
-//! Images to try check, copy and sample on: random valid files, damaged
-//! ones, and named cases with their expected answers. All of it is
-//! repeatable.
+//! Images to try check, copy, sample and difference list on: random valid
+//! files, damaged ones, named cases with their expected answers, and pairs.
+//! All of it is repeatable.
 
 pub mod cases;
+pub mod content;
 pub mod long;
 pub mod mutate;
+pub mod pairs;
 pub mod rng;
 pub mod sheet;
 pub mod signals;
 pub mod valid;
+pub mod vary;
 
 use rng::Rng;
 
@@ -18,7 +21,7 @@ pub struct Drawn {
     /// True when nothing was damaged, so that it has to be accepted.
     pub valid: bool,
     /// Beside a valid image the same blocks in another layout, beside a
-    /// damaged one the image it was made from.
+    /// damaged one the image it was made from; the other one of a pair.
     pub kin: Option<Vec<u8>>,
 }
 

@@ -1,5 +1,5 @@
-//! Small files with long copies: blocks and records that are shared are
-//! copied once for every use.
+//! Small files with long copies and long difference lists: blocks and records
+//! that are shared count once for every use.
 
 use super::cases::logged;
 use super::sheet::Sheet;
@@ -95,4 +95,31 @@ pub fn unsorted(mode: u16, data_groups: u64) -> (Sheet, u64) {
         field = dg + 4;
     }
     (sheet, 64 + 164 + data_groups * (3 * (28 + 30) + 97 * 65_535))
+}
+
+/// Two files with 1,024 groups each, whose list has so many entries, from
+/// 1,024 on: the records that only the first one has.
+pub fn with_entries(entries: u64) -> (Sheet, Sheet) {
+    let shared = entries / GROUPS;
+    (counting(shared, entries - (GROUPS - 1) * shared), counting(0, 0))
+}
+
+/// 1,024 groups with records of one byte: all but the last share theirs.
+fn counting(shared: u64, last: u64) -> Sheet {
+    let mut sheet = Sheet::new(300, 164);
+    let data = sheet.append(&vec![0x72; shared.max(last) as usize]);
+    let groups = [shared, last].map(|count| {
+        let cg = sheet.block(b"CG", 26);
+        sheet.put16(cg + 20, 1);
+        sheet.put32(cg + 22, count as u32);
+        cg
+    });
+    let mut field = 68;
+    for number in 0..GROUPS {
+        let dg = sheet.linked(field, b"DG", 24);
+        sheet.put32(dg + 8, groups[usize::from(number == GROUPS - 1)] as u32);
+        sheet.put32(dg + 16, data as u32);
+        field = dg + 4;
+    }
+    sheet
 }
