@@ -2,8 +2,9 @@
  * come of one source:
  *   - by_search goes about it as the library does: a check searches the groups of a data group one after the other for the ID
  *     of each record, and goes over sorted data record by record;
- *   - by_table is written for speed: a check looks the ID up in a table of 256, sorted data take it one division, and a
- *     comparison takes equal sorted data 64 records at a time.
+ *   - by_table is written for speed: a check looks the ID up in a table of 256, and sorted data take it one division. A
+ *     comparison takes equal sorted data 64 records at a time, and goes once over data groups whose records come in the same
+ *     order in both files, where by_search goes over them for each group.
  * Both copies and both comparisons look IDs up in a table. */
 #ifndef PLAIN_H
 #define PLAIN_H
