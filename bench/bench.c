@@ -1,6 +1,6 @@
-/* How long check, copy and sample take, beside two rewrites in plain C, the second implementation, a memcpy and a plain read,
- * all in one run. The figures are ratios, and nothing passes or fails by time; an answer or a copy that differs fails.
- * docs/BENCHMARKS.md says what the rows and columns mean. */
+/* How long check, copy, sample and compare take, beside two rewrites in plain C, the second implementation, a memcpy, a plain
+ * read and a memcmp, all in one run. The figures are ratios, and nothing passes or fails by time; an answer, a copy or a list
+ * that differs fails. docs/BENCHMARKS.md says what the rows and columns mean. */
 #include "made.h"
 #include "mdf3.h"
 #include "plain.h"
@@ -15,23 +15,26 @@ uint32_t second_sample(const uint8_t *image, size_t image_len, uint64_t group, u
                        uint8_t answer[MDF3_ANSWER_SIZE]);
 uint32_t second_physical(const uint8_t *image, size_t image_len, uint64_t group, uint64_t channel, uint64_t record,
                          uint8_t answer[MDF3_ANSWER_SIZE]);
+uint32_t second_compare(const uint8_t *first, size_t first_len, const uint8_t *second, size_t second_len, uint8_t *out,
+                        size_t out_len, uint8_t answer[MDF3_ANSWER_SIZE]);
 
 /* Four or five are measured in a row of the table, so each of them begins in as many turns as another. */
 #define TURNS 20
 
 /* Who is measured: those before MEMCPY answer, those before READ write. */
-enum who { LIBRARY, SEARCH, TABLE, SECOND, MEMCPY, READ, ALL };
+enum who { LIBRARY, SEARCH, TABLE, SECOND, MEMCPY, READ, MEMCMP, ALL };
 
-enum call { CHECK, COPY, SAMPLE };
+enum call { CHECK, COPY, SAMPLE, COMPARE };
 
-static const struct calls library = {mdf3_check, mdf3_copy, mdf3_sample, mdf3_physical, NULL};
-static const struct calls second = {second_check, second_copy, second_sample, second_physical, NULL};
+static const struct calls library = {mdf3_check, mdf3_copy, mdf3_sample, mdf3_physical, mdf3_compare};
+static const struct calls second = {second_check, second_copy, second_sample, second_physical, second_compare};
 static const struct calls *const answering[MEMCPY] = {&library, &by_search, &by_table, &second};
 
 struct file {
     struct shape shape;
-    size_t length, copy; /* of the image, and of its copy */
+    size_t length, copy, list; /* of the image, of its copy, and of the difference list */
     uint8_t *image, *to[READ];
+    uint8_t *same, *other; /* the image once more, and the one it is compared with; only where that is done */
     uint8_t answer[MEMCPY][MDF3_ANSWER_SIZE];
 };
 
@@ -73,6 +76,8 @@ static uint32_t answer_by(enum who who, enum call call, struct file *f)
         return by->check(f->image, f->length, answer);
     if (call == COPY)
         return by->copy(f->image, f->length, f->to[who], f->copy, answer);
+    if (call == COMPARE)
+        return by->compare(f->image, f->length, f->other, f->length, f->to[who], f->list, answer);
     return by->sample(f->image, f->length, f->shape.groups - 1, f->shape.channels - 1, 1, answer);
 }
 
@@ -82,6 +87,8 @@ static void once(enum who who, enum call call, struct file *f)
         memcpy(f->to[who], f->image, f->length);
     else if (who == READ)
         plain_read(f->image, f->length);
+    else if (who == MEMCMP)
+        kept = (uint64_t)memcmp(f->image, f->same, f->length);
     else if (answer_by(who, call, f) != MDF3_OK)
         fail("refused");
 }
@@ -95,25 +102,33 @@ static double took(enum who who, enum call call, struct file *files, unsigned co
     return now() - start;
 }
 
-/* Who does work of that kind in this call: a copy moves all bytes, a check of unsorted data looks into every record. */
+/* Who does work of that kind in this call: a copy moves all bytes, a check of unsorted data looks into every record, a
+ * comparison looks at all bytes of both images. */
 static unsigned measured(enum call call, const struct shape *s, enum who who[ALL])
 {
     unsigned n = 0;
     for (enum who w = LIBRARY; w < ALL; w++)
-        if (w < MEMCPY || (w == MEMCPY && call == COPY) || (w == READ && call == CHECK && s->mode > 0))
+        if (w < MEMCPY || (w == MEMCPY && call == COPY) || (w == READ && call == CHECK && s->mode > 0)
+            || (w == MEMCMP && call == COMPARE))
             who[n++] = w;
     return n;
 }
 
 /* ---- turns */
 
+/* How many bytes a call writes. */
+static size_t written(const struct file *f, enum call call)
+{
+    return call == COPY ? f->copy : call == COMPARE ? f->list : 0;
+}
+
 /* What is found there later has been written in this turn. Another output is the last one wiped each time. */
 static void wipe(struct file *f, enum call call, int turn)
 {
     memset(f->answer, turn + 1, sizeof f->answer);
-    for (int i = 0; i < (int)READ && call == COPY; i++) {
+    for (int i = 0; i < (int)READ && (call == COPY || call == COMPARE); i++) {
         int who = (turn + i) % (int)READ;
-        memset(f->to[who], turn + who, f->copy);
+        memset(f->to[who], turn + who, written(f, call));
     }
 }
 
@@ -123,8 +138,8 @@ static void agree(const struct file *f, enum call call)
     for (enum who who = SEARCH; who < MEMCPY; who++) {
         if (memcmp(f->answer[LIBRARY], f->answer[who], MDF3_ANSWER_SIZE) != 0)
             fail("answers differ");
-        if (call == COPY && memcmp(f->to[LIBRARY], f->to[who], f->copy) != 0)
-            fail("copies differ");
+        if (memcmp(f->to[LIBRARY], f->to[who], written(f, call)) != 0)
+            fail(call == COPY ? "copies differ" : "lists differ");
     }
 }
 
@@ -156,13 +171,17 @@ static void ratio(double time, double to)
         printf(" – |");
 }
 
-static void row(const char *file, enum call call, const double least[ALL])
+/* What was done is a call, or for a comparison how the other file differs. */
+static void row(const char *file, const char *done, enum call call, const double least[ALL])
 {
-    static const char *const names[] = {"check", "copy", "sample"};
     double time = least[LIBRARY];
-    printf("| %s | %s | %.*f ms |", file, names[call], time < 1e-3 ? 3 : 2, time * 1e3);
-    ratio(time, least[MEMCPY]);
-    ratio(time, least[READ]);
+    printf("| %s | %s | %.*f ms |", file, done, time < 1e-3 ? 3 : 2, time * 1e3);
+    if (call == COMPARE) {
+        ratio(time, least[MEMCMP]);
+    } else {
+        ratio(time, least[MEMCPY]);
+        ratio(time, least[READ]);
+    }
     ratio(time, least[SEARCH]);
     ratio(time, least[TABLE]);
     ratio(time, least[SECOND]);
@@ -189,6 +208,36 @@ static void open_file(struct file *f, const struct shape *s, unsigned number)
         f->to[who] = memory(f->copy > f->length ? f->copy : f->length);
 }
 
+/* How long the list is; a call without room tells that too, unless there is none. */
+static size_t needed_list(const struct file *f)
+{
+    uint8_t answer[MDF3_ANSWER_SIZE], none;
+    uint32_t number = mdf3_compare(f->image, f->length, f->other, f->length, &none, 0, answer);
+    if (number != MDF3_OK && number != MDF3_NO_ROOM)
+        fail("no length of the list");
+    return (size_t)mdf3_place(answer);
+}
+
+/* The other file of a comparison: the same, or with every so-manyth record changed. */
+static void open_other(struct file *f, unsigned every)
+{
+    f->same = memory(f->length);
+    f->other = memory(f->length);
+    memcpy(f->same, f->image, f->length);
+    memcpy(f->other, f->image, f->length);
+    if (every > 0)
+        change_records(f->other, f->length, &f->shape, every);
+    f->list = needed_list(f);
+    if ((f->list == 0) != (every == 0))
+        fail("the list is another");
+}
+
+static void close_other(struct file *f)
+{
+    free(f->same);
+    free(f->other);
+}
+
 static void close_file(struct file *f)
 {
     free(f->image);
@@ -196,21 +245,63 @@ static void close_file(struct file *f)
         free(f->to[who]);
 }
 
-static void bench(const struct shape *s)
+static struct file *open_files(const struct shape *s)
 {
     struct file *files = memory(s->files * sizeof *files);
     for (unsigned i = 0; i < s->files; i++)
         open_file(&files[i], s, i);
-    for (enum call call = CHECK; call <= SAMPLE; call++) {
-        double least[ALL] = {0};
-        for (int turn = 0; turn < TURNS; turn++)
-            take_turn(turn, call, files, least);
-        row(s->name, call, least);
-    }
+    return files;
+}
+
+static void close_files(struct file *files, const struct shape *s)
+{
     for (unsigned i = 0; i < s->files; i++)
         close_file(&files[i]);
     free(files);
 }
+
+/* All turns of a call, and its row. */
+static void measure(const char *done, enum call call, struct file *files, const char *name)
+{
+    double least[ALL] = {0};
+    for (int turn = 0; turn < TURNS; turn++)
+        take_turn(turn, call, files, least);
+    row(name, done, call, least);
+}
+
+static void bench(const struct shape *s)
+{
+    struct file *files = open_files(s);
+    measure("check", CHECK, files, s->name);
+    measure("copy", COPY, files, s->name);
+    measure("sample", SAMPLE, files, s->name);
+    close_files(files, s);
+}
+
+static void bench_compare(const struct shape *s, unsigned every, const char *done)
+{
+    struct file *files = open_files(s);
+    for (unsigned i = 0; i < s->files; i++)
+        open_other(&files[i], every);
+    measure(done, COMPARE, files, s->name);
+    for (unsigned i = 0; i < s->files; i++)
+        close_other(&files[i]);
+    close_files(files, s);
+}
+
+/* What a file is compared with: itself, or with every so-manyth record changed, in a small file two to four. */
+static const struct {
+    const char *name;
+    unsigned every;
+} others[] = {{"equal", 0}, {"1 of 500 records differs", 500}};
+
+static const struct shape compared[] = {
+    {"64 MB sorted", 64u << 20, 0, 1, 4, 16, 16, 1, 0},
+    {"64 MB unsorted, 8 groups", 64u << 20, 1, 8, 4, 8, 64, 1, 0},
+    {"64 MB unsorted, 8 groups, random order", 64u << 20, 1, 8, 4, 8, 64, 1, 1},
+    {"16,000 channels", 4u << 20, 0, 1, 16000, 64, 64, 1, 0},
+    {"2,000 files of 30 KB", 30u << 10, 1, 3, 4, 8, 20, 2000, 0},
+};
 
 static const struct shape shapes[] = {
     {"64 MB sorted", 64u << 20, 0, 1, 4, 16, 16, 1, 0},
@@ -239,11 +330,24 @@ static const struct shape shapes[] = {
     {"4,000 channels", 1u << 20, 0, 1, 4000, 64, 64, 1, 0},
 };
 
-int main(void)
+static void compare_all(void)
 {
-    printf("| file | call | time | to memcpy | to a plain read | to plain C, searching | to plain C, table |"
-           " to the second program |\n|---|---|---|---|---|---|---|---|\n");
-    for (size_t i = 0; i < sizeof shapes / sizeof shapes[0]; i++)
-        bench(&shapes[i]);
+    printf("\n| file | the other one | time | to memcmp | to plain C, searching | to plain C, table |"
+           " to the second program |\n|---|---|---|---|---|---|---|\n");
+    for (size_t i = 0; i < sizeof compared / sizeof compared[0]; i++)
+        for (size_t n = 0; n < sizeof others / sizeof others[0]; n++)
+            bench_compare(&compared[i], others[n].every, others[n].name);
+}
+
+/* Only the comparisons where that is asked for. */
+int main(int argc, char **argv)
+{
+    if (argc < 2 || strcmp(argv[1], "compare") != 0) {
+        printf("| file | call | time | to memcpy | to a plain read | to plain C, searching | to plain C, table |"
+               " to the second program |\n|---|---|---|---|---|---|---|---|\n");
+        for (size_t i = 0; i < sizeof shapes / sizeof shapes[0]; i++)
+            bench(&shapes[i]);
+    }
+    compare_all();
     return 0;
 }

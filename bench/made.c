@@ -104,6 +104,17 @@ size_t made(uint8_t *image, const struct shape *s, uint64_t seed)
     return end;
 }
 
+void change_records(uint8_t *image, size_t length, const struct shape *s, unsigned every)
+{
+    const uint8_t *link = image + 64 + 208 + 16; /* of the one data group, behind the header */
+    size_t at = link[0] + 256u * link[1] + 65536u * link[2] + 16777216u * link[3];
+    for (unsigned n = 1; at < length; n++) {
+        at += size_of(s, s->mode > 0 ? image[at] : 0) + s->mode;
+        if (n % every == 0)
+            image[at - 1 - (s->mode > 1)] ^= 1;
+    }
+}
+
 struct shape varied(const struct shape *s, uint64_t seed)
 {
     struct shape v = *s;
