@@ -1,6 +1,6 @@
 /* The calls at the edges of memory. Images, outputs and answers stand right before a page that is not there, then right
- * behind one: whoever reads or writes one byte too far ends the program. All answers are compared with those that the same
- * bytes give elsewhere.
+ * behind one: whoever reads or writes one byte too far ends the program. Two images that are compared stand apart, in the same
+ * memory, and overlapping. All answers are compared with those that the same bytes give elsewhere.
  *
  *   boundary [--large] FILE..
  *
@@ -127,6 +127,131 @@ static void copies(const uint8_t *image, size_t length, const uint8_t *plain, in
     copied(image, length, plain, needed + 1, at_end);
 }
 
+/* ---- two images */
+
+struct part {
+    uint8_t *bytes;
+    size_t length;
+};
+
+struct pair {
+    struct part first, second;
+};
+
+static struct pair swapped(struct pair p)
+{
+    struct pair other = {p.second, p.first};
+    return other;
+}
+
+static uint32_t list(struct pair p, uint8_t *out, size_t room, uint8_t *answer)
+{
+    return mdf3_compare(p.first.bytes, p.first.length, p.second.bytes, p.second.length, out, room, answer);
+}
+
+/* One difference list into an output that stands at an edge, as the answer does. */
+static void listed(struct pair p, struct pair plain, size_t room, int at_end)
+{
+    struct fenced outs = fence(room), answers = fence(MDF3_ANSWER_SIZE);
+    uint8_t *out = edge(outs, room, at_end), *other = malloc(room + 1);
+    struct answer a;
+    if (other == NULL)
+        fail("no memory");
+    memset(out, 0xA5, room);
+    memset(other, 0xA5, room);
+    a.number = list(plain, other, room, a.bytes);
+    same(told(answers, at_end, list(p, out, room, edge(answers, MDF3_ANSWER_SIZE, at_end))), a, "compare");
+    if (memcmp(out, other, room) != 0)
+        fail("the lists differ");
+    free(other);
+    unfence(outs);
+    unfence(answers);
+}
+
+/* With no room, exactly enough, one byte less and one more. */
+static void lists(struct pair p, struct pair plain, int at_end)
+{
+    struct answer a;
+    uint8_t none;
+    size_t needed;
+    a.number = list(plain, &none, 0, a.bytes);
+    needed = a.number == MDF3_NO_ROOM ? (size_t)mdf3_place(a.bytes) : 100;
+    listed(p, plain, 0, at_end);
+    listed(p, plain, needed, at_end);
+    listed(p, plain, needed - 1, at_end);
+    listed(p, plain, needed + 1, at_end);
+}
+
+static void both_orders(struct pair p, struct pair plain, int at_end)
+{
+    lists(p, plain, at_end);
+    lists(swapped(p), swapped(plain), at_end);
+}
+
+/* Each at edges of its own. */
+static void try_apart(struct pair plain)
+{
+    struct fenced one = fence(plain.first.length), other = fence(plain.second.length);
+    for (int ends = 0; ends < 4; ends++) {
+        uint8_t *first = edge(one, plain.first.length, ends & 1), *second = edge(other, plain.second.length, ends & 2);
+        struct pair p = {{first, plain.first.length}, {second, plain.second.length}};
+        memcpy(first, plain.first.bytes, plain.first.length);
+        memcpy(second, plain.second.bytes, plain.second.length);
+        mprotect(one.first, one.room, PROT_READ);
+        mprotect(other.first, other.room, PROT_READ);
+        both_orders(p, plain, ends & 1);
+        mprotect(one.first, one.room, PROT_READ | PROT_WRITE);
+        mprotect(other.first, other.room, PROT_READ | PROT_WRITE);
+    }
+    unfence(one);
+    unfence(other);
+}
+
+/* In one piece of memory that holds both, one behind the other: the first image is so many bytes from the start, the second
+ * one so many from the end. Plain are these bytes apart. */
+static void try_within(struct part all, size_t first, size_t second)
+{
+    struct fenced f = fence(all.length);
+    struct pair plain = {{all.bytes, first}, {NULL, second}}, p;
+    uint8_t *apart = malloc(second + 1);
+    if (apart == NULL)
+        fail("no memory");
+    memcpy(apart, all.bytes + all.length - second, second);
+    plain.second.bytes = apart;
+    for (int at_end = 0; at_end < 2; at_end++) {
+        uint8_t *image = edge(f, all.length, at_end);
+        memcpy(image, all.bytes, all.length);
+        mprotect(f.first, f.room, PROT_READ);
+        p.first.bytes = image;
+        p.first.length = first;
+        p.second.bytes = image + all.length - second;
+        p.second.length = second;
+        both_orders(p, plain, at_end);
+        mprotect(f.first, f.room, PROT_READ | PROT_WRITE);
+    }
+    free(apart);
+    unfence(f);
+}
+
+/* Two files apart, each with itself in the same memory, and overlapping: one file before the other, where it ends inside that
+ * one, and where that one is its end. What lies behind the blocks of a file does not count, so all are taken. */
+static void try_pair(struct part one, struct part other)
+{
+    struct pair plain = {one, other};
+    size_t whole = one.length + other.length;
+    uint8_t *joined = malloc(whole + 1);
+    struct part all = {joined, whole};
+    if (joined == NULL)
+        fail("no memory");
+    memcpy(joined, one.bytes, one.length);
+    memcpy(joined + one.length, other.bytes, other.length);
+    try_apart(plain);
+    try_within(one, one.length, one.length);
+    try_within(all, whole, other.length);
+    try_within(all, whole - other.length / 2, other.length);
+    free(joined);
+}
+
 static void try_image(const uint8_t *plain, size_t length)
 {
     struct fenced images = fence(length), answers = fence(MDF3_ANSWER_SIZE);
@@ -142,20 +267,41 @@ static void try_image(const uint8_t *plain, size_t length)
     unfence(answers);
 }
 
-/* Every length up to a file's own, or some of them. */
-static void try_file(const char *name)
+static struct part read_file(const char *name)
 {
     FILE *f = fopen(name, "rb");
     uint8_t *bytes = malloc(1u << 20);
-    size_t length;
+    struct part file = {bytes, 0};
     if (f == NULL || bytes == NULL)
         fail(name);
-    length = fread(bytes, 1, 1u << 20, f);
+    file.length = fread(bytes, 1, 1u << 20, f);
     fclose(f);
-    try_image(bytes, length);
-    for (size_t cut = 1; cut <= length && cut < 1000; cut += cut / 3 + 1)
-        try_image(bytes, length - cut);
-    free(bytes);
+    return file;
+}
+
+/* Every length up to a file's own, or some of them; and the file with the one before it, a few lengths of both. */
+static void try_file(struct part file, struct part before)
+{
+    try_image(file.bytes, file.length);
+    try_pair(file, before);
+    for (size_t cut = 1; cut <= file.length && cut < 1000; cut += cut / 3 + 1)
+        try_image(file.bytes, file.length - cut);
+    for (size_t cut = 1; cut <= file.length && cut < 1000; cut += 3 * cut) {
+        struct part shorter = {file.bytes, file.length - cut};
+        try_pair(shorter, before);
+    }
+}
+
+static void try_files(int count, char **names)
+{
+    struct part before = read_file(names[0]);
+    for (int i = 0; i < count; i++) {
+        struct part file = read_file(names[i]);
+        try_file(file, before);
+        free(before.bytes);
+        before = file;
+    }
+    free(before.bytes);
 }
 
 /* ---- the numbers of an answer and of an entry, as the header reads them */
@@ -186,9 +332,10 @@ static void try_nothing(void)
     struct fenced f = fence(0);
     uint8_t answer[MDF3_ANSWER_SIZE];
     if (mdf3_check(f.first, 0, answer) != 2 || mdf3_copy(f.first, 0, f.first, 0, answer) != 2
-        || mdf3_sample(f.first, 0, 0, 0, 0, answer) != 2 || mdf3_physical(f.first, 0, 0, 0, 0, answer) != 2)
+        || mdf3_sample(f.first, 0, 0, 0, 0, answer) != 2 || mdf3_physical(f.first, 0, 0, 0, 0, answer) != 2
+        || mdf3_compare(f.first, 0, f.first, 0, f.first, 0, answer) != 2)
         fail("no bytes");
-    compared += 4;
+    compared += 5;
     unfence(f);
 }
 
@@ -197,15 +344,16 @@ static void try_nothing(void)
 static void large(const char *name, size_t length, uint32_t wanted)
 {
     struct fenced f = fence(length);
-    uint8_t *image = edge(f, length, 1), answer[MDF3_ANSWER_SIZE];
+    uint8_t *image = edge(f, length, 1), answer[MDF3_ANSWER_SIZE], none;
     FILE *from = fopen(name, "rb");
     if (from == NULL || fread(image, 1, 1u << 20, from) == 0)
         fail(name);
     fclose(from);
     if (mdf3_check(image, length, answer) != wanted || mdf3_sample(image, length, 0, 0, 0, answer) != wanted
-        || mdf3_physical(image, length, 0, 0, 0, answer) != wanted || mdf3_place(answer) != 0)
+        || mdf3_physical(image, length, 0, 0, 0, answer) != wanted || mdf3_place(answer) != 0
+        || mdf3_compare(image, length, image, length, &none, 0, answer) != wanted || mdf3_place(answer) != 0)
         fail("2 GiB");
-    compared += 3;
+    compared += 4;
     unfence(f);
 }
 
@@ -217,8 +365,7 @@ int main(int argc, char **argv)
     try_readers();
     try_entry_readers();
     try_nothing();
-    for (int i = first; i < argc; i++)
-        try_file(argv[i]);
+    try_files(argc - first, argv + first);
     if (first == 2) {
         /* the file's bytes and zeros behind them: the longest image is accepted, one more byte is too long */
         large(argv[2], 2147483647u, 0);
