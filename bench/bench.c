@@ -218,7 +218,7 @@ static size_t needed_list(const struct file *f)
     return (size_t)mdf3_place(answer);
 }
 
-/* The other file of a comparison: the same, or with every so-manyth record changed. */
+/* The other file of a comparison: the same, or with every nth record changed, n being "every". */
 static void open_other(struct file *f, unsigned every)
 {
     f->same = memory(f->length);
@@ -289,7 +289,7 @@ static void bench_compare(const struct shape *s, unsigned every, const char *don
     close_files(files, s);
 }
 
-/* What a file is compared with: itself, or with every so-manyth record changed, in a small file two to four. */
+/* What a file is compared with: itself, or with every nth record changed, in a small file two to four. */
 static const struct {
     const char *name;
     unsigned every;

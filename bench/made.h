@@ -22,7 +22,7 @@ struct shape varied(const struct shape *s, uint64_t seed);
 /* Makes a file; its length. The data are filled up with records of all groups; seeds give other bytes and another order. */
 size_t made(uint8_t *image, const struct shape *s, uint64_t seed);
 
-/* Changes the last byte of every so-manyth record of a file of this shape. */
+/* Changes the last byte of every nth record of a file of this shape, n being "every". */
 void change_records(uint8_t *image, size_t length, const struct shape *s, unsigned every);
 
 /* Seconds. */

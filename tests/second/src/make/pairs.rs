@@ -25,28 +25,26 @@ pub enum Told {
 /// An entry by its numbers: kind, group, item, byte place.
 type Numbers = (u16, usize, usize, usize);
 
-#[derive(Default)]
+/// Collects pairs; the layouts come of the random numbers.
 struct Book {
     pairs: Vec<Pair>,
-    rng: Option<Rng>,
+    rng: Rng,
 }
 
 impl Book {
     /// Two contents with this list, in every combination of modes.
     fn add(&mut self, name: impl Into<String>, one: &Content, other: &Content, list: &[Numbers]) {
         let name = name.into();
-        let mut rng = self.rng.take().unwrap_or_else(|| Rng::new(1));
         for modes in 0..9 {
             let (a, b) = (modes / 3, modes % 3);
             let list = list.iter().map(|&(kind, group, item, byte)| entry(kind, group, item, byte));
             self.pairs.push(Pair {
                 name: format!("{name}, modes {a} and {b}"),
-                one: one.lay_down(&mut rng, Some(a)),
-                other: other.lay_down(&mut rng, Some(b)),
+                one: one.lay_down(&mut self.rng, Some(a)),
+                other: other.lay_down(&mut self.rng, Some(b)),
                 told: Told::List(list.collect()),
             });
         }
-        self.rng = Some(rng);
     }
 
     /// The base and what a change makes of it.
@@ -65,7 +63,7 @@ impl Book {
 
 /// All named pairs.
 pub fn all() -> Vec<Pair> {
-    let mut book = Book::default();
+    let mut book = Book { pairs: Vec::new(), rng: Rng::new(1) };
     book.changed("equal", |_| {}, &[]);
     headers(&mut book);
     versions(&mut book);
