@@ -1,0 +1,77 @@
+use Rattle.same_logs.proofs.Marks.{untold}
+use Rattle.reading.specs.declared.Data.the-variants.{Mixed}
+use Rattle.reading.specs.Steps.{DataIs}
+use borrow.Author.Needs.{needs}
+use Rattle.same_logs.proofs.mark_groups.Statement.{statement}
+use Rattle.same_logs.proofs.mark_groups.Tie as tie
+use Rattle.same_logs.proofs.mark_groups.Reads as reads
+use Rattle.same_logs.proofs.mark_groups.Lts as lts
+use Rattle.reading.proofs.Group.data.Reads as data-reads
+use Rattle.same_logs.proofs.mark_unsorted.Reads as mark-unsorted-reads
+
+-- src/lib.rt:67:27
+data-requires : tie.Need-data-requires
+data-requires c κs = search needs
+
+-- src/lib.rt:67:21
+enum-known--k : tie.Need-enum-known--k
+enum-known--k c = search needs
+
+-- src/lib.rt:68:9
+enum-told : tie.Need-enum-told
+enum-told c = search needs
+
+-- src/lib.rt:68:9
+returns : tie.Need-returns
+returns c = untold
+
+-- src/lib.rt:70:27
+data-requires-2 : tie.Need-data-requires-2
+data-requires-2 c κs = search needs
+
+-- src/lib.rt:70:21
+enum-known--l : tie.Need-enum-known--l
+enum-known--l c = search needs
+
+-- src/lib.rt:71:9
+enum-told-2 : tie.Need-enum-told-2
+enum-told-2 c = search needs
+
+-- src/lib.rt:71:9
+returns-2 : tie.Need-returns-2
+returns-2 c = untold
+
+-- src/lib.rt:73:5
+mark-unsorted-requires : tie.Need-mark-unsorted-requires
+mark-unsorted-requires c κs =
+    let right = c .before .before in
+    let left = right .before .before .before .before in
+    let start = left .before .before .before .before .before .before in
+    let a = start .args in
+    let x : DataIs (a .a .now) (a .g) (Mixed (left .-k .given .0 .0)) = rw (left .-k .given .1) at (left .before .before .«data» .ensures) in
+    let y : DataIs (a .b .now) (a .h) (Mixed (right .-l .given .0 .0)) = rw (right .-l .given .1) at (right .before .before .data2 .ensures) in
+    (start .pre .0, start .pre .1, start .pre .2, x .0, y .0)
+
+-- src/lib.rt:63:1
+same-length : tie.Need-same-length
+same-length c = search needs
+
+-- src/lib.rt:63:1
+returns-3 : tie.Need-returns-3
+returns-3 c = search needs
+
+pub mark-groups-spec : {M : Type 1} → statement M
+mark-groups-spec =
+    tie.close
+    (tie.spec
+    data-requires
+    enum-known--k
+    enum-told
+    returns
+    data-requires-2
+    enum-known--l
+    enum-told-2
+    returns-2
+    mark-unsorted-requires
+    same-length
+    returns-3)

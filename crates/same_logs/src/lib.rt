@@ -1,0 +1,116 @@
+// The records of two unsorted data groups side by side, in the order in which they stand: where both have the same order, one pass tells which of their groups have the same records.
+use reading::Data;
+use reading::Group;
+use reading::Log;
+use reading::LogStep;
+ghost use mathlib.Core.Path.{_≡_};
+ghost use mathlib.Core.Bool.{true};
+ghost use lib.ListN.{length};
+ghost use Rattle.reading.specs.Promise.{logAt};
+ghost use Rattle.reading.specs.Steps.{AtGroup, AtLog, logLeft, theGroup, unsorted};
+ghost use Rattle.same_logs.specs.Marks.{Told};
+
+// Marks the keys of records that differ. Whether both have the same keys in the same order; else the marks say nothing.
+fn mark_logs(
+    marks: &mut [u8],
+    a: &[u8],
+    sizes: &[u16],
+    x: Log,
+    b: &[u8],
+    others: &[u16],
+    y: Log,
+) -> bool
+    requires { ⌜ AtLog (now a) (now sizes) x × AtLog (now b) (now others) y × (length (now marks) ≡ 256) ⌝ }
+    ensures { λ r. ⌜ Told r (logLeft (now (a .entry)) (now (sizes .entry)) x) (logLeft (now (b .entry)) (now (others .entry)) y) (now (marks .exit)) ⌝ }
+{
+    let mut c = x;
+    let mut d = y;
+    loop {
+        let LogStep::Next(k, p, n, e) = c.next(a, sizes) else {
+            return match d.next(b, others) {
+                LogStep::Done => true,
+                LogStep::Next(_l, _q, _m, _f) => false,
+            };
+        };
+        let LogStep::Next(l, q, m, f) = d.next(b, others) else {
+            return false;
+        };
+        if k != l {
+            return false;
+        }
+        if !alike::same_part(a, p, n, b, q, m) {
+            marks[k] = 1;
+        }
+        c = e;
+        d = f;
+    }
+}
+
+// The same for the data groups of two groups.
+fn mark_unsorted(marks: &mut [u8], a: &[u8], g: Group, b: &[u8], h: Group) -> bool
+    requires { ⌜ AtGroup (now a) g × AtGroup (now b) h × (length (now marks) ≡ 256) × (unsorted (now a) g ≡ true) × (unsorted (now b) h ≡ true) ⌝ }
+    ensures { λ r. ⌜ Told r (logAt (now (a .entry)) (g .index)) (logAt (now (b .entry)) (h .index)) (now (marks .exit)) ⌝ }
+{
+    write::put_zeros(marks, 0, 256);
+    let mut sizes = [0u16; 256];
+    let mut others = [0u16; 256];
+    let x = g.log(a, &mut sizes);
+    let y = h.log(b, &mut others);
+    mark_logs(marks, a, &sizes, x, b, &others, y)
+}
+
+// No where one of them is sorted.
+fn mark_groups(marks: &mut [u8], a: &[u8], g: Group, b: &[u8], h: Group) -> bool
+    requires { ⌜ AtGroup (now a) g × AtGroup (now b) h × (length (now marks) ≡ 256) ⌝ }
+    ensures { λ r. ⌜ Told r (logAt (now (a .entry)) (g .index)) (logAt (now (b .entry)) (h .index)) (now (marks .exit)) ⌝ }
+{
+    let Data::Mixed(_k) = g.data(a) else {
+        return false;
+    };
+    let Data::Mixed(_l) = h.data(b) else {
+        return false;
+    };
+    mark_unsorted(marks, a, g, b, h)
+}
+
+// Marks anew where a data group begins in both files; else what was told of it holds on.
+pub fn mark(
+    marks: &mut [u8],
+    a: &[u8],
+    g: Group,
+    b: &[u8],
+    h: Group,
+    begins: bool,
+    told: bool,
+) -> bool
+    requires { ⌜ AtGroup (now a) g × AtGroup (now b) h × (length (now marks) ≡ 256) × Told told (logAt (now a) (g .index)) (logAt (now b) (h .index)) (now marks) ⌝ }
+    ensures { λ r. ⌜ Told r (logAt (now (a .entry)) (g .index)) (logAt (now (b .entry)) (h .index)) (now (marks .exit)) ⌝ }
+{
+    if begins {
+        return mark_groups(marks, a, g, b, h);
+    }
+    told
+}
+
+// Whether two groups are known to have the same records.
+pub fn known_same(marks: &[u8], a: &[u8], g: Group, b: &[u8], h: Group, told: bool) -> bool
+    requires { ⌜ AtGroup (now a) g × AtGroup (now b) h × (length (now marks) ≡ 256) × Told told (logAt (now a) (g .index)) (logAt (now b) (h .index)) (now marks) ⌝ }
+    ensures { λ r. ⌜ (r ≡ true → theGroup (now (a .entry)) g .records ≡ theGroup (now (b .entry)) h .records) ⌝ }
+{
+    if !told {
+        return false;
+    }
+    let Data::Mixed(k) = g.data(a) else {
+        return false;
+    };
+    let Data::Mixed(l) = h.data(b) else {
+        return false;
+    };
+    if k != l {
+        return false;
+    }
+    if marks.len() <= k {
+        return false;
+    }
+    marks[k] == 0
+}
