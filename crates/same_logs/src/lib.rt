@@ -59,21 +59,7 @@ fn mark_unsorted(marks: &mut [u8], a: &[u8], g: Group, b: &[u8], h: Group) -> bo
     mark_logs(marks, a, &sizes, x, b, &others, y)
 }
 
-// No where one of them is sorted.
-fn mark_groups(marks: &mut [u8], a: &[u8], g: Group, b: &[u8], h: Group) -> bool
-    requires { ⌜ AtGroup (now a) g × AtGroup (now b) h × (length (now marks) ≡ 256) ⌝ }
-    ensures { λ r. ⌜ Told r (logAt (now (a .entry)) (g .index)) (logAt (now (b .entry)) (h .index)) (now (marks .exit)) ⌝ }
-{
-    let Data::Mixed(_k) = g.data(a) else {
-        return false;
-    };
-    let Data::Mixed(_l) = h.data(b) else {
-        return false;
-    };
-    mark_unsorted(marks, a, g, b, h)
-}
-
-// Marks anew where a data group begins in both files; else what was told of it holds on.
+// Marks anew where a data group begins in both files; else what was told of it holds on. No where one of them is sorted.
 pub fn mark(
     marks: &mut [u8],
     a: &[u8],
@@ -84,10 +70,16 @@ pub fn mark(
     told: bool,
 ) -> bool
     requires { ⌜ AtGroup (now a) g × AtGroup (now b) h × (length (now marks) ≡ 256) × Told told (logAt (now a) (g .index)) (logAt (now b) (h .index)) (now marks) ⌝ }
-    ensures { λ r. ⌜ Told r (logAt (now (a .entry)) (g .index)) (logAt (now (b .entry)) (h .index)) (now (marks .exit)) ⌝ }
+    ensures { λ r. ⌜ Told r (logAt (now (a .entry)) (g .index)) (logAt (now (b .entry)) (h .index)) (now (marks .exit)) × (r ≡ true → (unsorted (now (a .entry)) g ≡ true) × (unsorted (now (b .entry)) h ≡ true)) ⌝ }
 {
+    let Data::Mixed(_k) = g.data(a) else {
+        return false;
+    };
+    let Data::Mixed(_l) = h.data(b) else {
+        return false;
+    };
     if begins {
-        return mark_groups(marks, a, g, b, h);
+        return mark_unsorted(marks, a, g, b, h);
     }
     told
 }

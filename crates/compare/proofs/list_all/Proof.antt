@@ -28,7 +28,7 @@ list-groups-requires : tie.Need-list-groups-requires
 list-groups-requires c κs =
     let y = c .before in
     let x = y .before in
-    (x .groups .ensures .0, y .groups2 .ensures .0, x .groups .ensures .2 ∙ sym (y .groups2 .ensures .2), near (x .before .before .before .list-file .ensures))
+    (x .groups .ensures .0, y .groups2 .ensures .0, x .groups .ensures .2 ∙ sym (y .groups2 .ensures .2), near (x .before .before .before .list-file .ensures), x .groups .ensures .3, y .groups2 .ensures .3)
 
 -- src/lib.rt:35:1
 same-length : tie.Need-same-length

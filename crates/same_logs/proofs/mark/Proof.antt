@@ -1,11 +1,13 @@
 use Rattle.same_logs.proofs.Marks.{untold}
 use Rattle.reading.specs.declared.Data.the-variants.{Mixed}
-use Rattle.reading.specs.Steps.{DataIs}
+use Rattle.reading.specs.Steps.{DataIs, unsorted}
+use mathlib.Core.Bool.{true, true≢false}
+use mathlib.Core.Path.{_≡_, sym}
 use borrow.Author.Needs.{needs}
-use Rattle.same_logs.proofs.mark_groups.Statement.{statement}
-use Rattle.same_logs.proofs.mark_groups.Tie as tie
-use Rattle.same_logs.proofs.mark_groups.Reads as reads
-use Rattle.same_logs.proofs.mark_groups.Lts as lts
+use Rattle.same_logs.proofs.mark.Statement.{statement}
+use Rattle.same_logs.proofs.mark.Tie as tie
+use Rattle.same_logs.proofs.mark.Reads as reads
+use Rattle.same_logs.proofs.mark.Lts as lts
 use Rattle.reading.proofs.Group.data.Reads as data-reads
 use Rattle.same_logs.proofs.mark_unsorted.Reads as mark-unsorted-reads
 
@@ -23,7 +25,7 @@ enum-told c = search needs
 
 -- src/lib.rt:68:9
 returns : tie.Need-returns
-returns c = untold
+returns c = (untold, λ e. absurd (true≢false (sym e)))
 
 -- src/lib.rt:70:27
 data-requires-2 : tie.Need-data-requires-2
@@ -39,29 +41,47 @@ enum-told-2 c = search needs
 
 -- src/lib.rt:71:9
 returns-2 : tie.Need-returns-2
-returns-2 c = untold
+returns-2 c = (untold, λ e. absurd (true≢false (sym e)))
 
--- src/lib.rt:73:5
-mark-unsorted-requires : tie.Need-mark-unsorted-requires
-mark-unsorted-requires c κs =
-    let right = c .before .before in
+-- ---- both are unsorted
+
+abbrev start : tie.After-known-told2 → tie.Start
+start c = c .before .before .before .before .before .before .before .before .before .before .before
+
+both : (c : tie.After-known-told2) → (unsorted (start c .args .a .now) (start c .args .g) ≡ true) × (unsorted (start c .args .b .now) (start c .args .h) ≡ true)
+both c =
+    let right = c .before in
     let left = right .before .before .before .before in
-    let start = left .before .before .before .before .before .before in
-    let a = start .args in
+    let a = start c .args in
     let x : DataIs (a .a .now) (a .g) (Mixed (left .-k .given .0 .0)) = rw (left .-k .given .1) at (left .before .before .«data» .ensures) in
     let y : DataIs (a .b .now) (a .h) (Mixed (right .-l .given .0 .0)) = rw (right .-l .given .1) at (right .before .before .data2 .ensures) in
-    (start .pre .0, start .pre .1, start .pre .2, x .0, y .0)
+    (x .0, y .0)
 
--- src/lib.rt:63:1
+-- src/lib.rt:74:9
+mark-unsorted-requires : tie.Need-mark-unsorted-requires
+mark-unsorted-requires c κs =
+    let w = c .before .before in
+    let p = start w .pre in
+    (p .0, p .1, p .2, both w .0, both w .1)
+
+-- src/lib.rt:74:9
 same-length : tie.Need-same-length
 same-length c = search needs
 
--- src/lib.rt:63:1
+-- src/lib.rt:74:9
 returns-3 : tie.Need-returns-3
-returns-3 c = search needs
+returns-3 c =
+    let call = c .before .before in
+    (call .mark-unsorted .ensures, λ e. both (call .before .before .before))
 
-pub mark-groups-spec : {M : Type 1} → statement M
-mark-groups-spec =
+-- src/lib.rt:63:1
+returns-4 : tie.Need-returns-4
+returns-4 c =
+    let w = c .before in
+    (start w .pre .3, λ e. both w)
+
+pub mark-spec : {M : Type 1} → statement M
+mark-spec =
     tie.close
     (tie.spec
     data-requires
@@ -74,4 +94,5 @@ mark-groups-spec =
     returns-2
     mark-unsorted-requires
     same-length
-    returns-3)
+    returns-3
+    returns-4)
