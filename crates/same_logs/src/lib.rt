@@ -92,17 +92,17 @@ pub fn known_same(marks: &[u8], a: &[u8], g: Group, b: &[u8], h: Group, told: bo
     if !told {
         return false;
     }
-    let Data::Mixed(k) = g.data(a) else {
+    let Data::Mixed(key) = g.data(a) else {
         return false;
     };
-    let Data::Mixed(l) = h.data(b) else {
+    let Data::Mixed(other) = h.data(b) else {
         return false;
     };
-    if k != l {
+    if key != other {
         return false;
     }
-    if marks.len() <= k {
+    if marks.len() <= key {
         return false;
     }
-    marks[k] == 0
+    marks[key] == 0
 }

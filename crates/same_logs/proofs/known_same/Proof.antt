@@ -22,8 +22,8 @@ data-requires : tie.Need-data-requires
 data-requires c κs = search needs
 
 -- src/lib.rt:87:21
-enum-known-k : tie.Need-enum-known-k
-enum-known-k c = search needs
+enum-known-key : tie.Need-enum-known-key
+enum-known-key c = search needs
 
 -- src/lib.rt:88:9
 enum-told : tie.Need-enum-told
@@ -38,8 +38,8 @@ data-requires-2 : tie.Need-data-requires-2
 data-requires-2 c κs = search needs
 
 -- src/lib.rt:90:21
-enum-known-l : tie.Need-enum-known-l
-enum-known-l c = search needs
+enum-known-other : tie.Need-enum-known-other
+enum-known-other c = search needs
 
 -- src/lib.rt:91:9
 enum-told-2 : tie.Need-enum-told-2
@@ -71,10 +71,10 @@ returns-6 c =
     let if1 = left .before .before .before in
     let start = if1 .before .before .before .before in
     let a = start .args in
-    let x : DataIs (a .a .now) (a .g) (Mixed (left .k .given .0 .0)) = rw (left .k .given .1) at (left .before .before .«data» .ensures) in
-    let y : DataIs (a .b .now) (a .h) (Mixed (right .l .given .0 .0)) = rw (right .l .given .1) at (right .before .before .data2 .ensures) in
-    let i : left .k .given .0 .0 < length (a .marks .now) = omega (arith, if3 .if3 .left) in
-    λ z. same-by (a .a .now) (a .g) (a .b .now) (a .h) (a .marks .now) (a .told) (start .pre .0) (start .pre .1) (start .pre .3) (not-false _ (if1 .if1 .left)) (left .k .given .0 .0) (right .l .given .0 .0) (x .1) (y .1) (if2 .if2 .left) (whatever (a .marks .now) (left .k .given .0 .0) 1 i ∙ eqb-true _ _ z)
+    let x : DataIs (a .a .now) (a .g) (Mixed (left .key .given .0 .0)) = rw (left .key .given .1) at (left .before .before .«data» .ensures) in
+    let y : DataIs (a .b .now) (a .h) (Mixed (right .other .given .0 .0)) = rw (right .other .given .1) at (right .before .before .data2 .ensures) in
+    let i : left .key .given .0 .0 < length (a .marks .now) = omega (arith, if3 .if3 .left) in
+    λ z. same-by (a .a .now) (a .g) (a .b .now) (a .h) (a .marks .now) (a .told) (start .pre .0) (start .pre .1) (start .pre .3) (not-false _ (if1 .if1 .left)) (left .key .given .0 .0) (right .other .given .0 .0) (x .1) (y .1) (if2 .if2 .left) (whatever (a .marks .now) (left .key .given .0 .0) 1 i ∙ eqb-true _ _ z)
 
 pub known-same-spec : {M : Type 1} → statement M
 known-same-spec =
@@ -82,11 +82,11 @@ known-same-spec =
     (tie.spec
     returns
     data-requires
-    enum-known-k
+    enum-known-key
     enum-told
     returns-2
     data-requires-2
-    enum-known-l
+    enum-known-other
     enum-told-2
     returns-3
     returns-4
