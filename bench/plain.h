@@ -4,7 +4,8 @@
  *     of each record, and goes over sorted data record by record;
  *   - by_table is written for speed: a check looks the ID up in a table of 256, and sorted data take it one division. A
  *     comparison takes equal sorted data 64 records at a time, and goes once over data groups whose records come in the same
- *     order in both files, where by_search goes over them for each group.
+ *     order in both files, where by_search goes over them for each group, and the library once and then for each group that
+ *     differs.
  * Both copies and both comparisons look IDs up in a table. */
 #ifndef PLAIN_H
 #define PLAIN_H
