@@ -13,8 +13,8 @@ use Rattle.reading.specs.declared.Group.{Group as CursorGroup}
 use Rattle.reading.specs.declared.Groups.{Groups}
 use Rattle.reading.specs.Steps.{unsorted, keyOf, endsDataGroup, AtKeys, KeyStep, GroupStepIs}
 use Rattle.reading.specs.declared.GroupStep.the-variants.{Next}
-use Rattle.same_logs.specs.Marks.{Told}
-use Rattle.same_logs.proofs.Marks.{untold, told-as}
+use Rattle.same_records.specs.Marks.{Told}
+use Rattle.same_records.proofs.Marks.{untold, told-as}
 use lib.ListN.{length}
 use Rattle.listing.specs.Listing.{Listed}
 use Rattle.listing.proofs.Laws.{listed-as, listed-then}

@@ -90,8 +90,8 @@ pub fn list_groups(out: &mut [u8], at: usize, a: &[u8], x: Groups, b: &[u8], y: 
         let GroupStep::Next(h, f) = d.next(b) else {
             return list_alone(out, to, a, c);
         };
-        let tells = same_logs::mark(&mut marks, a, g, b, h, begins, told);
-        let known = same_logs::known_same(&marks, a, g, b, h, tells);
+        let tells = same_records::mark(&mut marks, a, g, b, h, begins, told);
+        let known = same_records::known_same(&marks, a, g, b, h, tells);
         to = list_group(out, to, a, g, b, h, c.number(), known);
         let left = e.ends_data_group();
         let right = f.ends_data_group();

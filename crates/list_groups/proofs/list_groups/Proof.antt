@@ -10,7 +10,7 @@ use Rattle.list_groups.proofs.Laws.{none-left, none-right, both-next, A
 use Prim.Native.Nat.{ℕ, _+_}
 use lib.ListN.{length}
 use Rattle.reading.specs.Promise.{logAt}
-use Rattle.same_logs.specs.Marks.{Told}
+use Rattle.same_records.specs.Marks.{Told}
 use mathlib.Core.Path.{_≡_, refl, sym, ap, _∙_}
 use native.Mathlib.Omega.{arith}
 use borrow.Author.Needs.{needs}
@@ -25,8 +25,8 @@ use Rattle.reading.proofs.Groups.number.Reads as number-reads
 use Rattle.list_groups.proofs.both.Reads as both-reads
 use Rattle.list_groups.proofs.holds_on.Reads as holds-on-reads
 use Rattle.reading.proofs.Groups.ends_data_group.Reads as ends-data-group-reads
-use Rattle.same_logs.proofs.known_same.Reads as known-same-reads
-use Rattle.same_logs.proofs.mark.Reads as mark-reads
+use Rattle.same_records.proofs.known_same.Reads as known-same-reads
+use Rattle.same_records.proofs.mark.Reads as mark-reads
 
 abbrev Inv-loop : tie.InvT-loop
 Inv-loop out₀ at a b marks₀ begins₀ told₀ c₀ d₀ to₀ out marks begins told c d to =

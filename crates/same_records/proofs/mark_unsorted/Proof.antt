@@ -1,13 +1,13 @@
-use Rattle.same_logs.proofs.Marks.{told-as}
+use Rattle.same_records.proofs.Marks.{told-as}
 use mathlib.Core.Path.{_≡_, _∙_}
 use native.Mathlib.Omega.{arith}
 use borrow.Author.Needs.{needs}
-use Rattle.same_logs.proofs.mark_unsorted.Statement.{statement}
-use Rattle.same_logs.proofs.mark_unsorted.Tie as tie
-use Rattle.same_logs.proofs.mark_unsorted.Reads as reads
-use Rattle.same_logs.proofs.mark_unsorted.Lts as lts
+use Rattle.same_records.proofs.mark_unsorted.Statement.{statement}
+use Rattle.same_records.proofs.mark_unsorted.Tie as tie
+use Rattle.same_records.proofs.mark_unsorted.Reads as reads
+use Rattle.same_records.proofs.mark_unsorted.Lts as lts
 use Rattle.reading.proofs.Group.log.Reads as log-reads
-use Rattle.same_logs.proofs.mark_logs.Reads as mark-logs-reads
+use Rattle.same_records.proofs.mark_logs.Reads as mark-logs-reads
 use Rattle.write.proofs.put_zeros.Reads as put-zeros-reads
 
 -- src/lib.rt:54:5

@@ -1,15 +1,15 @@
-use Rattle.same_logs.proofs.Marks.{untold}
+use Rattle.same_records.proofs.Marks.{untold}
 use Rattle.reading.specs.declared.Data.the-variants.{Mixed}
 use Rattle.reading.specs.Steps.{DataIs, unsorted}
 use mathlib.Core.Bool.{true, true≢false}
 use mathlib.Core.Path.{_≡_, sym}
 use borrow.Author.Needs.{needs}
-use Rattle.same_logs.proofs.mark.Statement.{statement}
-use Rattle.same_logs.proofs.mark.Tie as tie
-use Rattle.same_logs.proofs.mark.Reads as reads
-use Rattle.same_logs.proofs.mark.Lts as lts
+use Rattle.same_records.proofs.mark.Statement.{statement}
+use Rattle.same_records.proofs.mark.Tie as tie
+use Rattle.same_records.proofs.mark.Reads as reads
+use Rattle.same_records.proofs.mark.Lts as lts
 use Rattle.reading.proofs.Group.data.Reads as data-reads
-use Rattle.same_logs.proofs.mark_unsorted.Reads as mark-unsorted-reads
+use Rattle.same_records.proofs.mark_unsorted.Reads as mark-unsorted-reads
 
 -- src/lib.rt:67:27
 data-requires : tie.Need-data-requires

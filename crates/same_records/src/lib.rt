@@ -1,14 +1,15 @@
-// The records of two unsorted data groups side by side, in the order in which they stand: where both have the same order, one pass tells which of their groups have the same records.
+// Whether two groups have the same records, told without going through them one by one: of sorted groups by their runs of bytes; of unsorted ones by one pass over both data groups, as long as their records come in the same order.
 use reading::Data;
 use reading::Group;
 use reading::Log;
 use reading::LogStep;
 ghost use mathlib.Core.Path.{_≡_};
 ghost use mathlib.Core.Bool.{true};
-ghost use lib.ListN.{length};
+ghost use Prim.Native.Nat.{_-_, _≤_, _<_};
+ghost use lib.ListN.{length, take, drop};
 ghost use Rattle.reading.specs.Promise.{logAt};
 ghost use Rattle.reading.specs.Steps.{AtGroup, AtLog, logLeft, theGroup, unsorted};
-ghost use Rattle.same_logs.specs.Marks.{Told};
+ghost use Rattle.same_records.specs.Marks.{Told};
 
 // Marks the keys of records that differ. Whether both have the same keys in the same order; else the marks say nothing.
 fn mark_logs(
@@ -84,13 +85,62 @@ pub fn mark(
     told
 }
 
+// The next part of a run: short enough for a difference in it to end the comparison soon.
+fn part_length(left: usize) -> usize
+    ensures { λ r. ⌜ (r ≤ left) × (0 < left → 0 < r) ⌝ }
+{
+    if left < 4096 {
+        return left;
+    }
+    4096
+}
+
+// Whether two runs of n bytes are the same.
+fn same_run(a: &[u8], at: usize, b: &[u8], to: usize, n: usize) -> bool
+    requires { ⌜ (n ≤ length (now a) - at) × (n ≤ length (now b) - to) ⌝ }
+    ensures { λ r. ⌜ (r ≡ true → take n (drop at (now (a .entry))) ≡ take n (drop to (now (b .entry)))) ⌝ }
+{
+    let mut i: usize = 0;
+    while i < n {
+        let len = part_length(n - i);
+        if !alike::same_part(a, at + i, len, b, to + i, len) {
+            return false;
+        }
+        i += len;
+    }
+    true
+}
+
+// Whether two sorted groups have the same records, as far as their runs tell.
+fn same_runs(a: &[u8], g: Group, b: &[u8], h: Group) -> bool
+    requires { ⌜ AtGroup (now a) g × AtGroup (now b) h ⌝ }
+    ensures { λ r. ⌜ (r ≡ true → theGroup (now (a .entry)) g .records ≡ theGroup (now (b .entry)) h .records) ⌝ }
+{
+    let Data::Run(at, n) = g.data(a) else {
+        return false;
+    };
+    let Data::Run(to, m) = h.data(b) else {
+        return false;
+    };
+    if n != m {
+        return false;
+    }
+    if g.size(a) != h.size(b) {
+        return false;
+    }
+    if g.count(a) != h.count(b) {
+        return false;
+    }
+    same_run(a, at, b, to, n)
+}
+
 // Whether two groups are known to have the same records.
 pub fn known_same(marks: &[u8], a: &[u8], g: Group, b: &[u8], h: Group, told: bool) -> bool
     requires { ⌜ AtGroup (now a) g × AtGroup (now b) h × (length (now marks) ≡ 256) × Told told (logAt (now a) (g .index)) (logAt (now b) (h .index)) (now marks) ⌝ }
     ensures { λ r. ⌜ (r ≡ true → theGroup (now (a .entry)) g .records ≡ theGroup (now (b .entry)) h .records) ⌝ }
 {
     if !told {
-        return false;
+        return same_runs(a, g, b, h);
     }
     let Data::Mixed(key) = g.data(a) else {
         return false;

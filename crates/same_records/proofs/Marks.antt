@@ -15,7 +15,7 @@ use Rattle.reading.specs.Promise.{Keyed, logAt, recordsWith}
 use Rattle.reading.specs.declared.Group.{Group}
 use Rattle.reading.specs.Steps.{AtGroup, theGroup, keyOf}
 use Rattle.reading.proofs.Promise.{with-own, with-other, group-rows}
-use Rattle.same_logs.specs.Marks.{Told}
+use Rattle.same_records.specs.Marks.{Told}
 
 pub untold : {l m : List Keyed} {marks : List ℕ} → Told false l m marks
 untold = record { same = λ e. absurd (true≢false (sym e)) }
