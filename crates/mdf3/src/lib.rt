@@ -1,5 +1,5 @@
-// The calls for C programs: include/mdf3.h declares them. Number and place of a refusal are called otherwise in each, so
-// that a must-fail edit, which goes by one line, can name them.
+// The calls for C programs: include/mdf3.h declares them. Number and place of a refusal, and the length of what is written,
+// are called otherwise in each, so that a must-fail edit, which goes by one line, can name them.
 use compare::Compared;
 use copy::Copied;
 use physical::PhysicalAnswer;
@@ -148,13 +148,13 @@ pub extern "C" fn mdf3_compare(
         × (now (out .exit) ≡ compareOutcome (now (first .entry)) (now (second .entry)) (now (out .entry)) .memory) ⌝ }
 {
     match compare::compare(first, second, out) {
-        Compared::Written(length) => {
-            *answer = answer_bytes(0, length as u64, 0, 0);
+        Compared::Written(size) => {
+            *answer = answer_bytes(0, size as u64, 0, 0);
             0
         }
-        Compared::Refused(refusal, position) => {
+        Compared::Refused(fault, position) => {
             *answer = answer_bytes(position as u64, 0, 0, 0);
-            refusal
+            fault
         }
     }
 }

@@ -9,14 +9,14 @@ use Rattle.mdf3.proofs.mdf3_compare.Tie as tie
 compare-requires : tie.Need-compare-requires
 compare-requires c κs = search needs
 
-enum-known-length : tie.Need-enum-known-length
-enum-known-length c = search needs
+enum-known-size : tie.Need-enum-known-size
+enum-known-size c = search needs
 
 answer-bytes-requires : tie.Need-answer-bytes-requires
 answer-bytes-requires c κs = search needs
 
-enum-known-refusal : tie.Need-enum-known-refusal
-enum-known-refusal c = search needs
+enum-known-fault : tie.Need-enum-known-fault
+enum-known-fault c = search needs
 
 answer-bytes-requires-2 : tie.Need-answer-bytes-requires-2
 answer-bytes-requires-2 c κs = search needs
@@ -26,10 +26,10 @@ same-length c = search needs
 
 returns : tie.Need-returns
 returns c =
-    let length = c .before .before in
-    let call = length .before .before .before .before in
+    let told = c .before .before in
+    let call = told .before .before .before .before in
     let a = call .before .before .before .before .before .args in
-    let w = compare-answered (a .first .now) (a .second .now) (a .out .now) (Written (length .length .given .0 .0)) (ap outcome (sym (length .length .given .1)) ∙ call .compare .ensures .0) in
+    let w = compare-answered (a .first .now) (a .second .now) (a .out .now) (Written (told .size .given .0 .0)) (ap outcome (sym (told .size .given .1)) ∙ call .compare .ensures .0) in
     (w .0, c .answer-bytes .ensures ∙ w .1, call .compare .ensures .1)
 
 same-length-2 : tie.Need-same-length-2
@@ -40,7 +40,7 @@ returns-2 c =
     let told = c .before .before in
     let call = told .before .before .before .before in
     let a = call .before .before .before .before .before .args in
-    let w = compare-answered (a .first .now) (a .second .now) (a .out .now) (Refused (told .refusal .given .0 .0) (told .refusal .given .0 .1 .0)) (ap outcome (sym (told .refusal .given .1)) ∙ call .compare .ensures .0) in
+    let w = compare-answered (a .first .now) (a .second .now) (a .out .now) (Refused (told .fault .given .0 .0) (told .fault .given .0 .1 .0)) (ap outcome (sym (told .fault .given .1)) ∙ call .compare .ensures .0) in
     (w .0, c .answer-bytes2 .ensures ∙ w .1, call .compare .ensures .1)
 
 pub mdf3-compare-spec : {M : Type 1} → statement M
@@ -48,9 +48,9 @@ mdf3-compare-spec =
     tie.close
     (tie.spec
     compare-requires
-    enum-known-length
+    enum-known-size
     answer-bytes-requires
-    enum-known-refusal
+    enum-known-fault
     answer-bytes-requires-2
     same-length
     returns
