@@ -1,4 +1,4 @@
-// Parts of two lent slices compared.
+// Parts of two lent slices compared. Each counter has a name of its own, so that a must-fail edit, which goes by one line, can name it.
 ghost use mathlib.Core.Path.{_≡_};
 ghost use mathlib.Core.List.{_++_};
 ghost use Prim.Native.Nat.{_+_, _-_, _≤_};
@@ -34,12 +34,12 @@ pub fn same_part(a: &[u8], at: usize, n: usize, b: &[u8], to: usize, m: usize) -
     }
     // no return from the loop, so that many bytes are compared at once
     let mut differing: u8 = 0;
-    let mut i: usize = 0;
-    while i < n {
-        if a[at + i] != b[to + i] {
+    let mut k: usize = 0;
+    while k < n {
+        if a[at + k] != b[to + k] {
             differing = 1;
         }
-        i += 1;
+        k += 1;
     }
     differing == 0
 }
@@ -72,12 +72,12 @@ pub fn same_padded(
     if n != m {
         return false;
     }
-    let mut i: usize = 0;
-    while i < n {
-        if padded_byte(a, at, held, i) != padded_byte(b, to, kept, i) {
+    let mut j: usize = 0;
+    while j < n {
+        if padded_byte(a, at, held, j) != padded_byte(b, to, kept, j) {
             return false;
         }
-        i += 1;
+        j += 1;
     }
     true
 }

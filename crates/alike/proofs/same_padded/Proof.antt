@@ -12,10 +12,10 @@ use Rattle.alike.proofs.same_padded.Lts as lts
 use Rattle.alike.proofs.padded_byte.Reads as padded-byte-reads
 
 abbrev Inv-loop : tie.InvT-loop
-Inv-loop a at held n b to kept m i₀ i = (i ≤ n) × (n ≡ m) × Agree (padded a at held n) (padded b to kept m) i
+Inv-loop a at held n b to kept m j₀ j = (j ≤ n) × (n ≡ m) × Agree (padded a at held n) (padded b to kept m) j
 
 abbrev μ-loop : tie.MeasureT-loop
-μ-loop a at held n b to kept m i₀ i = n - i
+μ-loop a at held n b to kept m j₀ j = n - j
 
 -- src/lib.rt:55:9
 returns : tie.Need-returns Inv-loop μ-loop
@@ -42,13 +42,13 @@ returns-2 : tie.Need-returns-2 Inv-loop μ-loop
 returns-2 c =
     let l = c .before .before .before .before .loop in
     let s = c .before .before .before .before .before .before .before .before in
-    let g = padded-next (s .args .a .now) (s .args .at) (s .args .held) (s .args .n) (s .pre .0) (s .pre .1) (l .i) in
-    let h = padded-next (s .args .b .now) (s .args .to) (s .args .kept) (s .args .m) (s .pre .2) (s .pre .3) (l .i) in
-    one-differs _ _ (l .i) (l .inv .2) (g (omega arith)) (h (omega (arith, l .inv .1))) (λ e. c .if2 .taken (c .before .before .padded-byte .ensures ∙ e ∙ sym (c .before .padded-byte2 .ensures)))
+    let g = padded-next (s .args .a .now) (s .args .at) (s .args .held) (s .args .n) (s .pre .0) (s .pre .1) (l .j) in
+    let h = padded-next (s .args .b .now) (s .args .to) (s .args .kept) (s .args .m) (s .pre .2) (s .pre .3) (l .j) in
+    one-differs _ _ (l .j) (l .inv .2) (g (omega arith)) (h (omega (arith, l .inv .1))) (λ e. c .if2 .taken (c .before .before .padded-byte .ensures ∙ e ∙ sym (c .before .padded-byte2 .ensures)))
 
 -- src/lib.rt:62:9
-add-i : tie.Need-add-i Inv-loop μ-loop
-add-i c = search needs
+add-j : tie.Need-add-j Inv-loop μ-loop
+add-j c = search needs
 
 -- src/lib.rt:58:5
 loop-less : tie.Need-loop-less Inv-loop μ-loop
@@ -59,18 +59,18 @@ loop-again : tie.Need-loop-again Inv-loop μ-loop
 loop-again c =
     let l = c .before .before .before .before .loop in
     let s = c .before .before .before .before .before .before .before .before in
-    let g = padded-next (s .args .a .now) (s .args .at) (s .args .held) (s .args .n) (s .pre .0) (s .pre .1) (l .i) in
-    let h = padded-next (s .args .b .now) (s .args .to) (s .args .kept) (s .args .m) (s .pre .2) (s .pre .3) (l .i) in
-    (omega arith, l .inv .1, one-agrees _ _ (l .i) (l .inv .2) (g (omega arith)) (h (omega (arith, l .inv .1))) (sym (c .before .before .padded-byte .ensures) ∙ c .if2 .left ∙ c .before .padded-byte2 .ensures) refl refl)
+    let g = padded-next (s .args .a .now) (s .args .at) (s .args .held) (s .args .n) (s .pre .0) (s .pre .1) (l .j) in
+    let h = padded-next (s .args .b .now) (s .args .to) (s .args .kept) (s .args .m) (s .pre .2) (s .pre .3) (l .j) in
+    (omega arith, l .inv .1, one-agrees _ _ (l .j) (l .inv .2) (g (omega arith)) (h (omega (arith, l .inv .1))) (sym (c .before .before .padded-byte .ensures) ∙ c .if2 .left ∙ c .before .padded-byte2 .ensures) refl refl)
 
 -- src/lib.rt:50:1
 returns-3 : tie.Need-returns-3 Inv-loop μ-loop
 returns-3 c =
     let l = c .before .loop in
     let s = c .before .before .before .before .before in
-    let g = padded-end (s .args .a .now) (s .args .at) (s .args .held) (s .args .n) (s .pre .0) (s .pre .1) (l .i) (omega arith) in
-    let h = padded-end (s .args .b .now) (s .args .to) (s .args .kept) (s .args .m) (s .pre .2) (s .pre .3) (l .i) (omega (arith, l .inv .1)) in
-    all-agree _ _ (l .i) (l .inv .2) g h
+    let g = padded-end (s .args .a .now) (s .args .at) (s .args .held) (s .args .n) (s .pre .0) (s .pre .1) (l .j) (omega arith) in
+    let h = padded-end (s .args .b .now) (s .args .to) (s .args .kept) (s .args .m) (s .pre .2) (s .pre .3) (l .j) (omega (arith, l .inv .1)) in
+    all-agree _ _ (l .j) (l .inv .2) g h
 
 pub same-padded-spec : {M : Type 1} → statement M
 same-padded-spec =
@@ -83,7 +83,7 @@ same-padded-spec =
     padded-byte-requires
     padded-byte-requires-2
     returns-2
-    add-i
+    add-j
     loop-less
     loop-again
     returns-3)

@@ -10,10 +10,10 @@ use Rattle.alike.proofs.same_part.Reads as reads
 use Rattle.alike.proofs.same_part.Lts as lts
 
 abbrev Inv-loop : tie.InvT-loop
-Inv-loop a at n b to m differing₀ i₀ differing i = (i ≤ n) × (n ≡ m) × Seen (part a at n) (part b to m) differing i
+Inv-loop a at n b to m differing₀ k₀ differing k = (k ≤ n) × (n ≡ m) × Seen (part a at n) (part b to m) differing k
 
 abbrev μ-loop : tie.MeasureT-loop
-μ-loop a at n b to m differing₀ i₀ differing i = n - i
+μ-loop a at n b to m differing₀ k₀ differing k = n - k
 
 -- src/lib.rt:33:9
 returns : tie.Need-returns Inv-loop μ-loop
@@ -44,8 +44,8 @@ shared-slice-read-if2-2 : tie.Need-shared-slice-read-if2-2 Inv-loop μ-loop
 shared-slice-read-if2-2 c = search needs
 
 -- src/lib.rt:42:9
-add-i : tie.Need-add-i Inv-loop μ-loop
-add-i c = search needs
+add-k : tie.Need-add-k Inv-loop μ-loop
+add-k c = search needs
 
 -- src/lib.rt:38:5
 loop-less : tie.Need-loop-less Inv-loop μ-loop
@@ -58,18 +58,18 @@ loop-again c =
     let s = c .before .before .before .before .before .before in
     let xs = part (s .args .a .now) (s .args .at) (s .args .n) in
     let ys = part (s .args .b .now) (s .args .to) (s .args .m) in
-    let g = part-next (s .args .a .now) (s .args .at) (s .args .n) (s .pre .0) (l .i) (omega arith) in
-    let h = part-next (s .args .b .now) (s .args .to) (s .args .m) (s .pre .1) (l .i) (omega (arith, l .inv .1)) in
-    (omega arith, l .inv .1, ⊎-elim (λ w. rw (w .1) (seen-other xs ys (l .differing) (l .i) (l .inv .2) g h (w .0 .taken))) (λ w. rw (w .1) (seen-same xs ys (l .differing) (l .i) (l .inv .2) g h (w .0 .left) refl refl)) (c .if2 .came))
+    let g = part-next (s .args .a .now) (s .args .at) (s .args .n) (s .pre .0) (l .k) (omega arith) in
+    let h = part-next (s .args .b .now) (s .args .to) (s .args .m) (s .pre .1) (l .k) (omega (arith, l .inv .1)) in
+    (omega arith, l .inv .1, ⊎-elim (λ w. rw (w .1) (seen-other xs ys (l .differing) (l .k) (l .inv .2) g h (w .0 .taken))) (λ w. rw (w .1) (seen-same xs ys (l .differing) (l .k) (l .inv .2) g h (w .0 .left) refl refl)) (c .if2 .came))
 
 -- src/lib.rt:28:1
 returns-2 : tie.Need-returns-2 Inv-loop μ-loop
 returns-2 c =
     let l = c .before .loop in
     let s = c .before .before .before in
-    let g = part-end (s .args .a .now) (s .args .at) (s .args .n) (s .pre .0) (l .i) (omega arith) in
-    let h = part-end (s .args .b .now) (s .args .to) (s .args .m) (s .pre .1) (l .i) (omega (arith, l .inv .1)) in
-    seen-all _ _ _ (l .i) (l .inv .2) g h
+    let g = part-end (s .args .a .now) (s .args .at) (s .args .n) (s .pre .0) (l .k) (omega arith) in
+    let h = part-end (s .args .b .now) (s .args .to) (s .args .m) (s .pre .1) (l .k) (omega (arith, l .inv .1)) in
+    seen-all _ _ _ (l .k) (l .inv .2) g h
 
 pub same-part-spec : {M : Type 1} → statement M
 same-part-spec =
@@ -83,7 +83,7 @@ same-part-spec =
     shared-slice-read-if2
     add-if2-2
     shared-slice-read-if2-2
-    add-i
+    add-k
     loop-less
     loop-again
     returns-2)
