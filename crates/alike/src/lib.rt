@@ -1,8 +1,7 @@
 // Parts of two lent slices compared. Each counter has a name of its own, so that a must-fail edit, which goes by one line, can name it.
 ghost use mathlib.Core.Path.{_≡_};
-ghost use mathlib.Core.List.{_++_};
 ghost use Prim.Native.Nat.{_+_, _-_, _≤_};
-ghost use lib.ListN.{length, take, drop, getD, replicate};
+ghost use lib.ListN.{length, take, drop, getD};
 ghost use Rattle.answers.specs.Differences.{sameBytes, difference};
 ghost use Rattle.alike.specs.Padded.{padded};
 

@@ -8,12 +8,12 @@ use lib.ListN.{length, drop}
 use borrow.Author.Tests.{le-leb, lt-leb}
 use Rattle.answers.specs.Readings.{Group, Reading, refused, accepted, join}
 use Rattle.answers.specs.Differences.{Entry, entryBytes, fileEntries, groupsEntries, differences, listLength, listBytes, entry, unless, sameBytes, sameBody, sameHeader}
-use Rattle.answers.specs.Outcomes.{outcomeOf, Pair, compared, comparing, compareOutcome}
+use Rattle.answers.specs.Outcomes.{outcomeOf, compared, comparing, compareOutcome}
 use Rattle.answers.proofs.Laws.{step, pass, stop, fail}
-use Rattle.write.specs.Write.{Wrote, wrote-as, wrote-whole}
+use Rattle.write.specs.Write.{wrote-whole}
 use Rattle.reading.specs.Promise.{reads}
 use Rattle.listing.specs.Listing.{capped, entriesBytes, Listed}
-use Rattle.listing.proofs.Laws.{listed-then, entries-length, capped-short, capped-long}
+use Rattle.listing.proofs.Laws.{listed-then, entries-length}
 use Rattle.compare.specs.declared.Compared.the-variants.{Written, Refused}
 use Rattle.compare.specs.Comparing.{ComparedAs, cappedLength}
 

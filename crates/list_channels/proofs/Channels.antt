@@ -1,11 +1,11 @@
 -- Channels side by side, and those that one group alone has.
 -- Assumes nothing.
-use Prim.Native.Nat.{ℕ, suc, _+_}
-use mathlib.Core.Path.{_≡_, refl, sym, ap, _∙_}
+use Prim.Native.Nat.{ℕ, _+_}
+use mathlib.Core.Path.{_≡_}
 use mathlib.Core.List.{List, [], _∷_, _++_}
 use native.Mathlib.Numerals.{add-one}
 use Rattle.answers.specs.Readings.{Channel}
-use Rattle.answers.specs.Differences.{Entry, entry, unless, sameChannel, alone, channelEntries}
+use Rattle.answers.specs.Differences.{entry, unless, sameChannel, alone, channelEntries}
 
 pub alone-none : {A : Type 0} (kind g i : ℕ) (xs : List A) → xs ≡ [] → alone kind g i xs ≡ []
 unfolding alone

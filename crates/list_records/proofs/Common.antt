@@ -1,13 +1,13 @@
 -- Records side by side, and those that one group alone has.
 -- Assumes nothing.
-use Prim.Native.Nat.{ℕ, zero, suc, _+_, _-_, _≤_, _<_}
+use Prim.Native.Nat.{ℕ, suc, _+_, _-_, _≤_}
 use mathlib.Core.Path.{_≡_, refl, sym, ap, _∙_}
-use mathlib.Core.List.{List, [], _∷_, _++_, append-assoc, append-nil}
+use mathlib.Core.List.{List, [], _∷_, _++_, append-assoc}
 use native.Mathlib.Omega.{arith}
 use native.Mathlib.Numerals.{add-one}
 use lib.ListN.{length, take, drop, drop-of-length-le}
-use Rattle.answers.specs.Differences.{Entry, entry, unless, sameBytes, difference, alone, recordEntries}
-use Rattle.listing.specs.Listing.{numbered, Listed, Listing}
+use Rattle.answers.specs.Differences.{entry, unless, sameBytes, difference, alone, recordEntries}
+use Rattle.listing.specs.Listing.{numbered}
 use Rattle.listing.proofs.Laws.{numbered-none, alone-numbered}
 use Rattle.reading.specs.declared.Series.{Series}
 use Rattle.reading.specs.declared.RowStep.the-variants.{Next, Done}

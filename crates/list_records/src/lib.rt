@@ -2,7 +2,6 @@
 use reading::Group;
 use reading::RowStep;
 use reading::Series;
-ghost use mathlib.Core.Path.{_≡_};
 ghost use Prim.Native.Nat.{_-_, _≤_};
 ghost use lib.ListN.{length, take, drop};
 ghost use Rattle.answers.specs.Differences.{sameBytes, difference, entry, unless, recordEntries};

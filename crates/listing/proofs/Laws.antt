@@ -9,7 +9,7 @@ use lib.Dec.{leb}
 use lib.ListN.{length, length-append}
 use borrow.Author.Tests.{leb-true, leb-false, le-leb, lt-leb}
 use Rattle.answers.specs.Readings.{join}
-use Rattle.answers.specs.Differences.{Entry, entry, entryBytes, unless, alone}
+use Rattle.answers.specs.Differences.{Entry, entry, entryBytes, alone}
 use Rattle.write.specs.Write.{Wrote, wrote-none, wrote-as, wrote-length, then}
 use Rattle.listing.specs.Listing.{capped, entryParts, entriesBytes, numbered, Listed, Listing}
 

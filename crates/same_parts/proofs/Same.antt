@@ -1,18 +1,17 @@
 -- Parts compared one after the other.
 -- Assumes nothing.
-use Prim.Native.Nat.{ℕ, _+_, _-_, _≤_, _<_}
-use mathlib.Core.Path.{_≡_, refl, sym, ap, ap₂, _∙_}
-use mathlib.Core.Bool.{Bool, true, false, cond, _&&_}
+use Prim.Native.Nat.{ℕ, _-_, _≤_}
+use mathlib.Core.Path.{_≡_, refl, ap₂, _∙_}
+use mathlib.Core.Bool.{Bool, true, false, _&&_}
 use mathlib.Core.List.{List}
 use native.Mathlib.Omega.{arith}
-use lib.Dec.{eqb}
-use lib.ListN.{length, take, drop}
+use lib.ListN.{length}
 use borrow.Author.Tests.{eq-eqb, ne-eqb}
 use Rattle.answers.specs.Readings.{Channel, Group, Reading}
 use Rattle.answers.specs.Readings.{Body as ReadBody}
 use Rattle.answers.specs.Differences.{sameBytes, sameBody, sameChannel, sameOwn, sameHeader}
 use Rattle.reading.specs.declared.Body.{Body}
-use Rattle.reading.specs.declared.Body.the-variants.{Absent, Present}
+use Rattle.reading.specs.declared.Body.the-variants.{Present}
 use Rattle.reading.specs.Steps.{bodyHeld, BodyInside, BodyIs}
 use Rattle.same_parts.specs.Same.{sameFields, sameBodies}
 

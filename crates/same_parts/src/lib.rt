@@ -4,8 +4,6 @@ use reading::Channel;
 use reading::File;
 use reading::Group;
 ghost use mathlib.Core.Path.{_≡_};
-ghost use mathlib.Core.Bool.{_&&_};
-ghost use lib.ListN.{take};
 ghost use Rattle.answers.specs.Differences.{sameBytes, sameBody, sameChannel, sameOwn, sameHeader};
 ghost use Rattle.reading.specs.Promise.{imageReading};
 ghost use Rattle.reading.specs.Steps.{bodyHeld, BodyInside, AtFile, AtGroup, AtChannel, theGroup, theChannel};

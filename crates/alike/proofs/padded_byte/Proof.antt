@@ -1,31 +1,25 @@
 use Rattle.alike.proofs.Differing.{part-length}
 use Rattle.alike.proofs.Padding.{getD-past}
-use lib.ListN.{length, take, drop, getD}
+use lib.ListN.{take, drop}
 use lib.Seq.{getD-take, getD-drop}
-use mathlib.Core.Path.{_≡_, sym, _∙_}
+use mathlib.Core.Path.{sym, _∙_}
 use native.Mathlib.Omega.{arith}
 use borrow.Author.Needs.{needs}
 use Rattle.alike.proofs.padded_byte.Statement.{statement}
 use Rattle.alike.proofs.padded_byte.Tie as tie
-use Rattle.alike.proofs.padded_byte.Reads as reads
-use Rattle.alike.proofs.padded_byte.Lts as lts
 
--- src/lib.rt:44:9
 returns : tie.Need-returns
 returns c =
     let s = c .before in
     let l = part-length (s .args .a .now) (s .args .at) (s .args .held) (s .pre) in
     sym (getD-past (take (s .args .held) (drop (s .args .at) (s .args .a .now))) (s .args .i) (omega (arith, c .if1 .taken, l)))
 
--- src/lib.rt:46:7
 add-result : tie.Need-add-result
 add-result c = search needs
 
--- src/lib.rt:46:5
 shared-slice-read-result : tie.Need-shared-slice-read-result
 shared-slice-read-result c = search needs
 
--- src/lib.rt:39:1
 returns-2 : tie.Need-returns-2
 returns-2 c =
     let s = c .before .before in

@@ -7,9 +7,6 @@ use native.Mathlib.Omega.{arith}
 use borrow.Author.Needs.{needs}
 use Rattle.alike.proofs.same_padded.Statement.{statement}
 use Rattle.alike.proofs.same_padded.Tie as tie
-use Rattle.alike.proofs.same_padded.Reads as reads
-use Rattle.alike.proofs.same_padded.Lts as lts
-use Rattle.alike.proofs.padded_byte.Reads as padded-byte-reads
 
 abbrev Inv-loop : tie.InvT-loop
 Inv-loop a at held n b to kept m j₀ j = (j ≤ n) × (n ≡ m) × Agree (padded a at held n) (padded b to kept m) j
@@ -17,7 +14,6 @@ Inv-loop a at held n b to kept m j₀ j = (j ≤ n) × (n ≡ m) × Agree (padde
 abbrev μ-loop : tie.MeasureT-loop
 μ-loop a at held n b to kept m j₀ j = n - j
 
--- src/lib.rt:55:9
 returns : tie.Need-returns Inv-loop μ-loop
 returns c =
     let s = c .before .before .before in
@@ -25,19 +21,15 @@ returns c =
     let y = padded-length (s .args .b .now) (s .args .to) (s .args .kept) (s .args .m) (s .pre .2) (s .pre .3) in
     same-lengths (padded (s .args .a .now) (s .args .at) (s .args .held) (s .args .n)) (padded (s .args .b .now) (s .args .to) (s .args .kept) (s .args .m)) (λ e. c .if1 .taken (sym x ∙ e ∙ y))
 
--- src/lib.rt:58:5
 loop-holds : tie.Need-loop-holds Inv-loop μ-loop
 loop-holds c = (omega arith, c .if1 .left, agree-none _ _)
 
--- src/lib.rt:59:12
 padded-byte-requires : tie.Need-padded-byte-requires Inv-loop μ-loop
 padded-byte-requires c κs = search needs
 
--- src/lib.rt:59:43
 padded-byte-requires-2 : tie.Need-padded-byte-requires-2 Inv-loop μ-loop
 padded-byte-requires-2 c κs = search needs
 
--- src/lib.rt:60:13
 returns-2 : tie.Need-returns-2 Inv-loop μ-loop
 returns-2 c =
     let l = c .before .before .before .before .loop in
@@ -46,15 +38,12 @@ returns-2 c =
     let h = padded-next (s .args .b .now) (s .args .to) (s .args .kept) (s .args .m) (s .pre .2) (s .pre .3) (l .j) in
     one-differs _ _ (l .j) (l .inv .2) (g (omega arith)) (h (omega (arith, l .inv .1))) (λ e. c .if2 .taken (c .before .before .padded-byte .ensures ∙ e ∙ sym (c .before .padded-byte2 .ensures)))
 
--- src/lib.rt:62:9
 add-j : tie.Need-add-j Inv-loop μ-loop
 add-j c = search needs
 
--- src/lib.rt:58:5
 loop-less : tie.Need-loop-less Inv-loop μ-loop
 loop-less c = search needs
 
--- src/lib.rt:58:5
 loop-again : tie.Need-loop-again Inv-loop μ-loop
 loop-again c =
     let l = c .before .before .before .before .loop in
@@ -63,7 +52,6 @@ loop-again c =
     let h = padded-next (s .args .b .now) (s .args .to) (s .args .kept) (s .args .m) (s .pre .2) (s .pre .3) (l .j) in
     (omega arith, l .inv .1, one-agrees _ _ (l .j) (l .inv .2) (g (omega arith)) (h (omega (arith, l .inv .1))) (sym (c .before .before .padded-byte .ensures) ∙ c .if2 .left ∙ c .before .padded-byte2 .ensures) refl refl)
 
--- src/lib.rt:50:1
 returns-3 : tie.Need-returns-3 Inv-loop μ-loop
 returns-3 c =
     let l = c .before .loop in

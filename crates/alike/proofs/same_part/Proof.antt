@@ -6,8 +6,6 @@ use mathlib.Core.Logic.{⊎-elim}
 use native.Mathlib.Omega.{arith}
 use Rattle.alike.proofs.same_part.Statement.{statement}
 use Rattle.alike.proofs.same_part.Tie as tie
-use Rattle.alike.proofs.same_part.Reads as reads
-use Rattle.alike.proofs.same_part.Lts as lts
 
 abbrev Inv-loop : tie.InvT-loop
 Inv-loop a at n b to m differing₀ k₀ differing k = (k ≤ n) × (n ≡ m) × Seen (part a at n) (part b to m) differing k
@@ -15,7 +13,6 @@ Inv-loop a at n b to m differing₀ k₀ differing k = (k ≤ n) × (n ≡ m) ×
 abbrev μ-loop : tie.MeasureT-loop
 μ-loop a at n b to m differing₀ k₀ differing k = n - k
 
--- src/lib.rt:33:9
 returns : tie.Need-returns Inv-loop μ-loop
 returns c =
     let s = c .before in
@@ -23,35 +20,27 @@ returns c =
     let y = part-length (s .args .b .now) (s .args .to) (s .args .m) (s .pre .1) in
     same-lengths (part (s .args .a .now) (s .args .at) (s .args .n)) (part (s .args .b .now) (s .args .to) (s .args .m)) (λ e. c .if1 .taken (sym x ∙ e ∙ y))
 
--- src/lib.rt:38:5
 loop-holds : tie.Need-loop-holds Inv-loop μ-loop
 loop-holds c = (omega arith, c .if1 .left, seen-none _ _)
 
--- src/lib.rt:39:14
 add-if2 : tie.Need-add-if2 Inv-loop μ-loop
 add-if2 c = search needs
 
--- src/lib.rt:39:12
 shared-slice-read-if2 : tie.Need-shared-slice-read-if2 Inv-loop μ-loop
 shared-slice-read-if2 c = search needs
 
--- src/lib.rt:39:27
 add-if2-2 : tie.Need-add-if2-2 Inv-loop μ-loop
 add-if2-2 c = search needs
 
--- src/lib.rt:39:25
 shared-slice-read-if2-2 : tie.Need-shared-slice-read-if2-2 Inv-loop μ-loop
 shared-slice-read-if2-2 c = search needs
 
--- src/lib.rt:42:9
 add-k : tie.Need-add-k Inv-loop μ-loop
 add-k c = search needs
 
--- src/lib.rt:38:5
 loop-less : tie.Need-loop-less Inv-loop μ-loop
 loop-less c = search needs
 
--- src/lib.rt:38:5
 loop-again : tie.Need-loop-again Inv-loop μ-loop
 loop-again c =
     let l = c .before .before .before .before .loop in
@@ -62,7 +51,6 @@ loop-again c =
     let h = part-next (s .args .b .now) (s .args .to) (s .args .m) (s .pre .1) (l .k) (omega (arith, l .inv .1)) in
     (omega arith, l .inv .1, ⊎-elim (λ w. rw (w .1) (seen-other xs ys (l .differing) (l .k) (l .inv .2) g h (w .0 .taken))) (λ w. rw (w .1) (seen-same xs ys (l .differing) (l .k) (l .inv .2) g h (w .0 .left) refl refl)) (c .if2 .came))
 
--- src/lib.rt:28:1
 returns-2 : tie.Need-returns-2 Inv-loop μ-loop
 returns-2 c =
     let l = c .before .loop in

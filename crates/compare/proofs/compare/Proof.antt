@@ -3,20 +3,13 @@ use Rattle.compare.proofs.Outcomes.{first-refused, second-refused}
 use borrow.Author.Needs.{needs}
 use Rattle.compare.proofs.compare.Statement.{statement}
 use Rattle.compare.proofs.compare.Tie as tie
-use Rattle.compare.proofs.compare.Reads as reads
-use Rattle.compare.proofs.compare.Lts as lts
-use Rattle.compare.proofs.write_list.Reads as write-list-reads
-use Rattle.reading.proofs.open.Reads as open-reads
 
--- src/lib.rt:78:9
 open-requires : tie.Need-open-requires
 open-requires c κs = search needs
 
--- src/lib.rt:80:25
 enum-known-access : tie.Need-enum-known-access
 enum-known-access c = search needs
 
--- src/lib.rt:81:13
 returns : tie.Need-returns
 returns c =
     let told = c .before in
@@ -26,19 +19,15 @@ returns c =
     let w = first-refused (a .first .now) (a .second .now) (a .out .now) (e .1) in
     (w .given, w .memory)
 
--- src/lib.rt:83:25
 enum-known-access-2 : tie.Need-enum-known-access-2
 enum-known-access-2 c = search needs
 
--- src/lib.rt:84:17
 open-requires-2 : tie.Need-open-requires-2
 open-requires-2 c κs = search needs
 
--- src/lib.rt:86:33
 enum-known-other : tie.Need-enum-known-other
 enum-known-other c = search needs
 
--- src/lib.rt:87:21
 returns-2 : tie.Need-returns-2
 returns-2 c =
     let told = c .before in
@@ -51,11 +40,9 @@ returns-2 c =
     let w = second-refused (a .first .now) (a .second .now) (a .out .now) (imageReading (a .first .now)) (d .1 .1) (e .1) in
     (w .given, w .memory)
 
--- src/lib.rt:89:33
 enum-known-other-2 : tie.Need-enum-known-other-2
 enum-known-other-2 c = search needs
 
--- src/lib.rt:89:39
 write-list-requires : tie.Need-write-list-requires
 write-list-requires c κs =
     let told = c .before .before in
@@ -66,11 +53,9 @@ write-list-requires c κs =
     let e = rw (told .other2 .given .1) at (o .open2 .ensures) in
     (d .1 .0, e .1 .0)
 
--- src/lib.rt:75:1
 same-length : tie.Need-same-length
 same-length c = search needs
 
--- src/lib.rt:75:1
 returns-3 : tie.Need-returns-3
 returns-3 c = search needs
 

@@ -6,51 +6,34 @@ use mathlib.Core.Path.{ap}
 use borrow.Author.Needs.{needs}
 use Rattle.compare.proofs.list_file.Statement.{statement}
 use Rattle.compare.proofs.list_file.Tie as tie
-use Rattle.compare.proofs.list_file.Reads as reads
-use Rattle.compare.proofs.list_file.Lts as lts
-use Rattle.listing.proofs.list_unless.Reads as list-unless-reads
-use Rattle.same_parts.proofs.same_comment.Reads as same-comment-reads
-use Rattle.same_parts.proofs.same_header.Reads as same-header-reads
-use Rattle.same_parts.proofs.same_ident.Reads as same-ident-reads
-use Rattle.same_parts.proofs.same_program.Reads as same-program-reads
 
--- src/lib.rt:24:9
 same-ident-requires : tie.Need-same-ident-requires
 same-ident-requires c κs = search needs
 
--- src/lib.rt:25:9
 same-header-requires : tie.Need-same-header-requires
 same-header-requires c κs = search needs
 
--- src/lib.rt:26:9
 same-comment-requires : tie.Need-same-comment-requires
 same-comment-requires c κs = search needs
 
--- src/lib.rt:27:9
 same-program-requires : tie.Need-same-program-requires
 same-program-requires c κs = search needs
 
--- src/lib.rt:28:9
 list-unless-requires : tie.Need-list-unless-requires
 list-unless-requires c κs = search needs
 
--- src/lib.rt:29:9
 list-unless-requires-2 : tie.Need-list-unless-requires-2
 list-unless-requires-2 c κs = near (c .before .before .before .list-unless .ensures)
 
--- src/lib.rt:30:9
 list-unless-requires-3 : tie.Need-list-unless-requires-3
 list-unless-requires-3 c κs = near (c .before .before .before .list-unless2 .ensures)
 
--- src/lib.rt:31:5
 list-unless-requires-4 : tie.Need-list-unless-requires-4
 list-unless-requires-4 c κs = near (c .before .before .before .list-unless3 .ensures)
 
--- src/lib.rt:20:1
 same-length : tie.Need-same-length
 same-length c = search needs
 
--- src/lib.rt:20:1
 returns : tie.Need-returns
 returns c =
     let fourth = c .before .before in

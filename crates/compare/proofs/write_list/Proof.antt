@@ -3,22 +3,15 @@ use Rattle.reading.proofs.Promise.{file-accepted}
 use Rattle.answers.specs.Differences.{listLength}
 use Rattle.listing.proofs.Laws.{capped-short, capped-long}
 use Rattle.compare.proofs.Outcomes.{too-long, no-room, written, output-is, empty-list}
-use Prim.Native.Nat.{_≤_, _<_}
-use mathlib.Core.Path.{_≡_, sym, _∙_}
+use mathlib.Core.Path.{sym, _∙_}
 use native.Mathlib.Omega.{arith}
 use borrow.Author.Needs.{needs}
 use Rattle.compare.proofs.write_list.Statement.{statement}
 use Rattle.compare.proofs.write_list.Tie as tie
-use Rattle.compare.proofs.write_list.Reads as reads
-use Rattle.compare.proofs.write_list.Lts as lts
-use Rattle.compare.proofs.list_all.Reads as list-all-reads
-use Rattle.compare.proofs.list_length.Reads as list-length-reads
 
--- src/lib.rt:59:9
 list-length-requires : tie.Need-list-length-requires
 list-length-requires c κs = search needs
 
--- src/lib.rt:61:9
 returns : tie.Need-returns
 returns c =
     let length = c .before in
@@ -28,7 +21,6 @@ returns c =
     let s = imageReading (a .b .now) in
     too-long (a .a .now) (a .b .now) (a .out .now) r (file-accepted _ _ (start .pre .0)) s (file-accepted _ _ (start .pre .1)) (capped-long (listLength r s) (omega (arith, length .list-length .ensures, c .if1 .taken)))
 
--- src/lib.rt:64:9
 returns-2 : tie.Need-returns-2
 returns-2 c =
     let if1 = c .before in
@@ -40,7 +32,6 @@ returns-2 c =
     let k = length .list-length .ensures ∙ capped-short (listLength r s) (omega (arith, length .list-length .ensures, if1 .if1 .left)) in
     no-room (a .a .now) (a .b .now) (a .out .now) r (file-accepted _ _ (start .pre .0)) s (file-accepted _ _ (start .pre .1)) (length .list-length .result) k (if1 .if1 .left) (c .if2 .taken)
 
--- src/lib.rt:68:9
 returns-3 : tie.Need-returns-3
 returns-3 c =
     let if1 = c .before .before in
@@ -52,15 +43,12 @@ returns-3 c =
     let k = sym (c .if3 .taken) ∙ length .list-length .ensures ∙ capped-short (listLength r s) (omega (arith, length .list-length .ensures, if1 .if1 .left)) in
     written (a .a .now) (a .b .now) (a .out .now) r (file-accepted _ _ (start .pre .0)) s (file-accepted _ _ (start .pre .1)) 0 k (omega arith) (a .out .now) (omega arith) (empty-list r s (a .out .now) k)
 
--- src/lib.rt:70:5
 list-all-requires : tie.Need-list-all-requires
 list-all-requires c κs = search needs
 
--- src/lib.rt:55:1
 same-length : tie.Need-same-length
 same-length c = search needs
 
--- src/lib.rt:55:1
 returns-4 : tie.Need-returns-4
 returns-4 c =
     let put = c .before .before in

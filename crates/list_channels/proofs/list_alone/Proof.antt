@@ -6,19 +6,14 @@ use Rattle.reading.specs.declared.Channels.{Channels}
 use Rattle.reading.specs.declared.ChannelStep.the-variants.{Next}
 use Rattle.reading.specs.Steps.{AtChannels, ChannelStepIs, channelsLeft}
 use Rattle.list_channels.proofs.Channels.{alone-none, alone-next}
-use Prim.Native.Nat.{ℕ, _+_}
+use Prim.Native.Nat.{_+_}
 use lib.ListN.{length}
 use mathlib.Core.List.{[], _∷_}
-use mathlib.Core.Path.{_≡_, refl, sym, ap, _∙_}
+use mathlib.Core.Path.{_≡_, ap, _∙_}
 use native.Mathlib.Omega.{arith}
 use borrow.Author.Needs.{needs}
 use Rattle.list_channels.proofs.list_alone.Statement.{statement}
 use Rattle.list_channels.proofs.list_alone.Tie as tie
-use Rattle.list_channels.proofs.list_alone.Reads as reads
-use Rattle.list_channels.proofs.list_alone.Lts as lts
-use Rattle.listing.proofs.list_entry.Reads as list-entry-reads
-use Rattle.reading.proofs.Channels.next.Reads as next-reads
-use Rattle.reading.proofs.Channels.number.Reads as number-reads
 
 abbrev Inv-loop : tie.InvT-loop
 Inv-loop out₀ at image group c₀ to₀ out c to =

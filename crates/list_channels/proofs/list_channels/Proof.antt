@@ -6,21 +6,14 @@ use Rattle.reading.specs.declared.Channels.{Channels}
 use Rattle.reading.specs.declared.ChannelStep.the-variants.{Next}
 use Rattle.reading.specs.Steps.{AtChannels, ChannelStepIs, channelsLeft, theChannel}
 use Rattle.list_channels.proofs.Channels.{none-left, none-right, both-next}
-use Prim.Native.Nat.{ℕ, _+_}
+use Prim.Native.Nat.{_+_}
 use lib.ListN.{length}
 use mathlib.Core.List.{[]}
-use mathlib.Core.Path.{_≡_, refl, sym, ap, ap₂, _∙_}
+use mathlib.Core.Path.{_≡_, sym, ap, ap₂, _∙_}
 use native.Mathlib.Omega.{arith}
 use borrow.Author.Needs.{needs}
 use Rattle.list_channels.proofs.list_channels.Statement.{statement}
 use Rattle.list_channels.proofs.list_channels.Tie as tie
-use Rattle.list_channels.proofs.list_channels.Reads as reads
-use Rattle.list_channels.proofs.list_channels.Lts as lts
-use Rattle.list_channels.proofs.list_alone.Reads as list-alone-reads
-use Rattle.listing.proofs.list_unless.Reads as list-unless-reads
-use Rattle.reading.proofs.Channels.next.Reads as next-reads
-use Rattle.reading.proofs.Channels.number.Reads as number-reads
-use Rattle.same_parts.proofs.same_channel.Reads as same-channel-reads
 
 abbrev Inv-loop : tie.InvT-loop
 Inv-loop out₀ at a b group c₀ d₀ to₀ out c d to =

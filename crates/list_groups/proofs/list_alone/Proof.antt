@@ -8,16 +8,11 @@ use Rattle.reading.specs.Steps.{AtGroups, GroupStepIs, groupsLeft}
 use Rattle.list_groups.proofs.Laws.{alone-none, alone-next}
 use lib.ListN.{length}
 use mathlib.Core.List.{[], _∷_}
-use mathlib.Core.Path.{_≡_, refl, sym, ap, _∙_}
+use mathlib.Core.Path.{ap}
 use native.Mathlib.Omega.{arith}
 use borrow.Author.Needs.{needs}
 use Rattle.list_groups.proofs.list_alone.Statement.{statement}
 use Rattle.list_groups.proofs.list_alone.Tie as tie
-use Rattle.list_groups.proofs.list_alone.Reads as reads
-use Rattle.list_groups.proofs.list_alone.Lts as lts
-use Rattle.listing.proofs.list_entry.Reads as list-entry-reads
-use Rattle.reading.proofs.Groups.next.Reads as next-reads
-use Rattle.reading.proofs.Groups.number.Reads as number-reads
 
 abbrev Inv-loop : tie.InvT-loop
 Inv-loop out₀ at image c₀ to₀ out c to =

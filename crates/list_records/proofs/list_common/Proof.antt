@@ -7,16 +7,11 @@ use Rattle.list_records.specs.Common.{commonEntries}
 use Rattle.list_records.proofs.Common.{none-left, Went, went-by, none-common, common-none, common-next}
 use Prim.Native.Nat.{ℕ}
 use lib.ListN.{length, take, drop}
-use mathlib.Core.Path.{_≡_, refl, sym, ap, _∙_}
+use mathlib.Core.Path.{ap}
 use native.Mathlib.Omega.{arith}
 use borrow.Author.Needs.{needs}
 use Rattle.list_records.proofs.list_common.Statement.{statement}
 use Rattle.list_records.proofs.list_common.Tie as tie
-use Rattle.list_records.proofs.list_common.Reads as reads
-use Rattle.list_records.proofs.list_common.Lts as lts
-use Rattle.list_records.proofs.list_record.Reads as list-record-reads
-use Rattle.reading.proofs.Series.next.Reads as next-reads
-use Rattle.reading.proofs.Series.number.Reads as number-reads
 
 abbrev Inv-loop : tie.InvT-loop
 Inv-loop out₀ at a sizes b others group c₀ d₀ to₀ out c d to =

@@ -2,21 +2,13 @@ use Rattle.listing.proofs.Laws.{listed-none, listed-as}
 use Rattle.answers.specs.Differences.{entry, unless, difference}
 use lib.ListN.{take, drop}
 use mathlib.Core.Path.{sym, ap, ap₂, _∙_}
-use mathlib.Core.List.{[], _∷_}
 use borrow.Author.Needs.{needs}
 use Rattle.list_records.proofs.list_record.Statement.{statement}
 use Rattle.list_records.proofs.list_record.Tie as tie
-use Rattle.list_records.proofs.list_record.Reads as reads
-use Rattle.list_records.proofs.list_record.Lts as lts
-use Rattle.alike.proofs.first_difference.Reads as first-difference-reads
-use Rattle.alike.proofs.same_part.Reads as same-part-reads
-use Rattle.listing.proofs.list_entry.Reads as list-entry-reads
 
--- src/lib.rt:29:8
 same-part-requires : tie.Need-same-part-requires
 same-part-requires c κs = search needs
 
--- src/lib.rt:30:9
 returns : tie.Need-returns
 returns c =
     let same = c .before in
@@ -24,19 +16,15 @@ returns c =
     let byte = difference (take (start .args .n) (drop (start .args .p) (start .args .a .now))) (take (start .args .m) (drop (start .args .q) (start .args .b .now))) in
     listed-as (listed-none (start .args .at) (start .pre .2)) (ap (λ t. unless t (entry 4 (start .args .group) (start .args .item) byte)) (sym (c .if1 .taken) ∙ same .same-part .ensures))
 
--- src/lib.rt:32:9
 first-difference-requires : tie.Need-first-difference-requires
 first-difference-requires c κs = search needs
 
--- src/lib.rt:33:5
 list-entry-requires : tie.Need-list-entry-requires
 list-entry-requires c κs = search needs
 
--- src/lib.rt:14:1
 same-length : tie.Need-same-length
 same-length c = search needs
 
--- src/lib.rt:14:1
 returns-2 : tie.Need-returns-2
 returns-2 c =
     let put = c .before .before in

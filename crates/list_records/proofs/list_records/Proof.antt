@@ -9,55 +9,37 @@ use native.Mathlib.Omega.{arith}
 use borrow.Author.Needs.{needs}
 use Rattle.list_records.proofs.list_records.Statement.{statement}
 use Rattle.list_records.proofs.list_records.Tie as tie
-use Rattle.list_records.proofs.list_records.Reads as reads
-use Rattle.list_records.proofs.list_records.Lts as lts
-use Rattle.list_records.proofs.list_common.Reads as list-common-reads
-use Rattle.listing.proofs.list_numbered.Reads as list-numbered-reads
-use Rattle.reading.proofs.Group.count.Reads as count-reads
-use Rattle.reading.proofs.Group.series.Reads as series-reads
-use Rattle.reading.proofs.Group.sizes.Reads as sizes-reads
 
--- src/lib.rt:74:17
 sizes-requires : tie.Need-sizes-requires
 sizes-requires c κs = search needs
 
--- src/lib.rt:75:18
 sizes-requires-2 : tie.Need-sizes-requires-2
 sizes-requires-2 c κs = search needs
 
--- src/lib.rt:76:25
 slice-aggregate-series : tie.Need-slice-aggregate-series
 slice-aggregate-series c = search needs
 
--- src/lib.rt:76:9
 series-requires : tie.Need-series-requires
 series-requires c κs = search needs
 
--- src/lib.rt:77:25
 slice-aggregate-series-2 : tie.Need-slice-aggregate-series-2
 slice-aggregate-series-2 c = search needs
 
--- src/lib.rt:77:9
 series-requires-2 : tie.Need-series-requires-2
 series-requires-2 c κs = search needs
 
--- src/lib.rt:78:29
 slice-aggregate-list-common : tie.Need-slice-aggregate-list-common
 slice-aggregate-list-common c = search needs
 
--- src/lib.rt:78:43
 slice-aggregate-list-common-2 : tie.Need-slice-aggregate-list-common-2
 slice-aggregate-list-common-2 c = search needs
 
--- src/lib.rt:78:9
 list-common-requires : tie.Need-list-common-requires
 list-common-requires c κs = search needs
 
--- src/lib.rt:79:9
 count-requires : tie.Need-count-requires
 count-requires c κs = search needs
 
--- src/lib.rt:80:9
 count-requires-2 : tie.Need-count-requires-2
 count-requires-2 c κs = search needs
 
@@ -83,21 +65,17 @@ common c =
 abbrev listed : tie.After-count2 → tie.After-list-common
 listed c = c .before .before .before .before
 
--- src/lib.rt:82:61
 sub-list-numbered : tie.Need-sub-list-numbered
 sub-list-numbered c = search needs
 
--- src/lib.rt:82:9
 list-numbered-requires : tie.Need-list-numbered-requires
 list-numbered-requires c κs =
     let m = c .before .before in
     (near (common (listed m)), omega (arith, m .count2 .ensures .1), m .before .count .ensures .1)
 
--- src/lib.rt:82:9
 same-length : tie.Need-same-length
 same-length c = search needs
 
--- src/lib.rt:82:9
 returns : tie.Need-returns
 returns c =
     let put = c .before .before in
@@ -106,17 +84,14 @@ returns c =
     let lc = listed m in
     listed-as (listed-then (common lc) (put .list-numbered .ensures)) (then-right (start lc .args .group) (m .before .count .result) (m .count2 .result) (left lc) (right lc) (m .before .count .ensures .0) (m .count2 .ensures .0) (omega (arith, if1 .if1 .taken)))
 
--- src/lib.rt:84:5
 list-numbered-requires-2 : tie.Need-list-numbered-requires-2
 list-numbered-requires-2 c κs =
     let m = c .before .before in
     (near (common (listed m)), omega (arith, m .before .count .ensures .1), m .count2 .ensures .1)
 
--- src/lib.rt:70:1
 same-length-2 : tie.Need-same-length-2
 same-length-2 c = search needs
 
--- src/lib.rt:70:1
 returns-2 : tie.Need-returns-2
 returns-2 c =
     let put = c .before .before in

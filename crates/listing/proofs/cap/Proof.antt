@@ -2,14 +2,10 @@ use Rattle.listing.proofs.Laws.{capped-exact, capped-over}
 use mathlib.Core.Path.{sym}
 use Rattle.listing.proofs.cap.Statement.{statement}
 use Rattle.listing.proofs.cap.Tie as tie
-use Rattle.listing.proofs.cap.Reads as reads
-use Rattle.listing.proofs.cap.Lts as lts
 
--- src/lib.rt:13:9
 returns : tie.Need-returns
 returns c = sym (capped-exact _ (c .if1 .taken))
 
--- src/lib.rt:9:1
 returns-2 : tie.Need-returns-2
 returns-2 c = sym (capped-over _ (c .if1 .left))
 

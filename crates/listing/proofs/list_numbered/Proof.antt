@@ -4,16 +4,10 @@ use Rattle.answers.specs.Differences.{entry}
 use Prim.Native.Nat.{_+_, _*_, _-_, _≤_}
 use lib.ListN.{length}
 use mathlib.Core.List.{[], _∷_}
-use mathlib.Core.Path.{_≡_, refl, sym, ap, _∙_}
-use native.Mathlib.Nat.{add-zero}
+use mathlib.Core.Path.{_≡_, sym, ap, _∙_}
 use native.Mathlib.Omega.{arith}
-use borrow.Author.Needs.{needs}
 use Rattle.listing.proofs.list_numbered.Statement.{statement}
 use Rattle.listing.proofs.list_numbered.Tie as tie
-use Rattle.listing.proofs.list_numbered.Reads as reads
-use Rattle.listing.proofs.list_numbered.Lts as lts
-use Rattle.listing.proofs.cap.Reads as cap-reads
-use Rattle.listing.proofs.list_entry.Reads as list-entry-reads
 
 abbrev Inv-loop : tie.InvT-loop
 Inv-loop out₀ at kind group item n end to₀ i₀ out to i = (i ≤ n) × Listing (numbered kind group item n) out₀ out at to (numbered kind group (item + i) (n - i))
@@ -21,15 +15,12 @@ Inv-loop out₀ at kind group item n end to₀ i₀ out to i = (i ≤ n) × List
 abbrev μ-loop : tie.MeasureT-loop
 μ-loop out₀ at kind group item n end to₀ i₀ out to i = n - i
 
--- src/lib.rt:71:24
 mul-cap : tie.Need-mul-cap Inv-loop μ-loop
 mul-cap c = omega (arith, c .before .pre .1)
 
--- src/lib.rt:71:19
 add-cap : tie.Need-add-cap Inv-loop μ-loop
 add-cap c = omega (arith, c .before .pre .0, c .before .pre .1)
 
--- src/lib.rt:71:9
 cap-requires : tie.Need-cap-requires Inv-loop μ-loop
 cap-requires c κs = tt
 

@@ -4,26 +4,19 @@ use mathlib.Core.Path.{sym, ap}
 use borrow.Author.Needs.{needs}
 use Rattle.listing.proofs.list_unless.Statement.{statement}
 use Rattle.listing.proofs.list_unless.Tie as tie
-use Rattle.listing.proofs.list_unless.Reads as reads
-use Rattle.listing.proofs.list_unless.Lts as lts
-use Rattle.listing.proofs.list_entry.Reads as list-entry-reads
 
--- src/lib.rt:61:9
 returns : tie.Need-returns
 returns c =
     let start = c .before .before in
     let a = start .args in
     listed-as (listed-none (a .at) (start .pre)) (ap (λ t. unless t (entry (a .kind) (a .group) (a .item) 0)) (sym (c .if1 .taken)))
 
--- src/lib.rt:63:5
 list-entry-requires : tie.Need-list-entry-requires
 list-entry-requires c κs = search needs
 
--- src/lib.rt:56:1
 same-length : tie.Need-same-length
 same-length c = search needs
 
--- src/lib.rt:56:1
 returns-2 : tie.Need-returns-2
 returns-2 c =
     let put = c .before .before in

@@ -1,27 +1,20 @@
 use Rattle.reading.specs.Promise.{imageReading}
 use Rattle.answers.specs.Readings.{version}
-use mathlib.Core.Path.{_≡_, sym, _∙_}
 use native.Mathlib.Omega.{arith}
 use borrow.Author.Tests.{lt-ltb, le-ltb}
 use borrow.Author.Needs.{needs}
 use Rattle.same_parts.proofs.later_length.Statement.{statement}
 use Rattle.same_parts.proofs.later_length.Tie as tie
-use Rattle.same_parts.proofs.later_length.Reads as reads
-use Rattle.same_parts.proofs.later_length.Lts as lts
-use Rattle.reading.proofs.File.version.Reads as version-reads
 
--- src/lib.rt:103:8
 version-requires : tie.Need-version-requires
 version-requires c κs = search needs
 
--- src/lib.rt:104:9
 returns : tie.Need-returns
 returns c =
     let v = c .before .version .ensures in
     let start = c .before .before .before in
     rw (lt-ltb (version (imageReading (start .args .image .now))) 320 (omega (arith, c .if1 .taken)))
 
--- src/lib.rt:99:1
 returns-2 : tie.Need-returns-2
 returns-2 c =
     let v = c .before .version .ensures in

@@ -6,14 +6,6 @@ use borrow.Author.Tests.{not-true, not-false}
 use borrow.Author.Needs.{needs}
 use Rattle.same_parts.proofs.same_bodies.Statement.{statement}
 use Rattle.same_parts.proofs.same_bodies.Tie as tie
-use Rattle.same_parts.proofs.same_bodies.Reads as reads
-use Rattle.same_parts.proofs.same_bodies.Lts as lts
-use Rattle.reading.proofs.Channel.comment.Reads as comment-reads
-use Rattle.reading.proofs.Channel.conversion.Reads as conversion-reads
-use Rattle.reading.proofs.Channel.display_name.Reads as display-name-reads
-use Rattle.reading.proofs.Channel.extension.Reads as extension-reads
-use Rattle.reading.proofs.Channel.long_name.Reads as long-name-reads
-use Rattle.same_parts.proofs.same_body.Reads as same-body-reads
 
 -- ---- the bodies one by one: where the comparison of each stands, and what it says
 
@@ -47,91 +39,71 @@ long-name-same c = sym (by-place (c .same-body4 .ensures) (c .before .before .lo
 display-name-same : (c : tie.After-same-body5) → sameBody (theChannel (start (back2 (back3 (back4 (back5 c)))) .args .a .now) (start (back2 (back3 (back4 (back5 c)))) .args .x) .displayName) (theChannel (start (back2 (back3 (back4 (back5 c)))) .args .b .now) (start (back2 (back3 (back4 (back5 c)))) .args .y) .displayName) ≡ c .same-body5 .result
 display-name-same c = sym (by-place (c .same-body5 .ensures) (c .before .before .display-name .ensures) (c .before .display-name2 .ensures))
 
--- src/lib.rt:50:22
 conversion-requires : tie.Need-conversion-requires
 conversion-requires c κs = search needs
 
--- src/lib.rt:50:42
 conversion-requires-2 : tie.Need-conversion-requires-2
 conversion-requires-2 c κs = search needs
 
--- src/lib.rt:50:9
 same-body-requires : tie.Need-same-body-requires
 same-body-requires c κs = search needs
 
--- src/lib.rt:51:9
 returns : tie.Need-returns
 returns c =
     let this = c .before in
     rw (conversion-same this ∙ not-true _ (c .if1 .taken))
 
--- src/lib.rt:53:22
 extension-requires : tie.Need-extension-requires
 extension-requires c κs = search needs
 
--- src/lib.rt:53:41
 extension-requires-2 : tie.Need-extension-requires-2
 extension-requires-2 c κs = search needs
 
--- src/lib.rt:53:9
 same-body-requires-2 : tie.Need-same-body-requires-2
 same-body-requires-2 c κs = search needs
 
--- src/lib.rt:54:9
 returns-2 : tie.Need-returns-2
 returns-2 c =
     let this = c .before in
     rw (conversion-same (back2 this) ∙ not-false _ (this .before .before .before .if1 .left), extension-same this ∙ not-true _ (c .if2 .taken))
 
--- src/lib.rt:56:22
 comment-requires : tie.Need-comment-requires
 comment-requires c κs = search needs
 
--- src/lib.rt:56:39
 comment-requires-2 : tie.Need-comment-requires-2
 comment-requires-2 c κs = search needs
 
--- src/lib.rt:56:9
 same-body-requires-3 : tie.Need-same-body-requires-3
 same-body-requires-3 c κs = search needs
 
--- src/lib.rt:57:9
 returns-3 : tie.Need-returns-3
 returns-3 c =
     let this = c .before in
     rw (conversion-same (back2 (back3 this)) ∙ not-false _ ((back3 this) .before .before .before .if1 .left), extension-same (back3 this) ∙ not-false _ (this .before .before .before .if2 .left), comment-same this ∙ not-true _ (c .if3 .taken))
 
--- src/lib.rt:59:22
 long-name-requires : tie.Need-long-name-requires
 long-name-requires c κs = search needs
 
--- src/lib.rt:59:41
 long-name-requires-2 : tie.Need-long-name-requires-2
 long-name-requires-2 c κs = search needs
 
--- src/lib.rt:59:9
 same-body-requires-4 : tie.Need-same-body-requires-4
 same-body-requires-4 c κs = search needs
 
--- src/lib.rt:60:9
 returns-4 : tie.Need-returns-4
 returns-4 c =
     let this = c .before in
     rw (conversion-same (back2 (back3 (back4 this))) ∙ not-false _ ((back3 (back4 this)) .before .before .before .if1 .left), extension-same (back3 (back4 this)) ∙ not-false _ ((back4 this) .before .before .before .if2 .left), comment-same (back4 this) ∙ not-false _ (this .before .before .before .if3 .left), long-name-same this ∙ not-true _ (c .if4 .taken))
 
--- src/lib.rt:62:18
 display-name-requires : tie.Need-display-name-requires
 display-name-requires c κs = start (back2 (back3 (back4 (c .before)))) .pre .0
 
--- src/lib.rt:62:40
 display-name-requires-2 : tie.Need-display-name-requires-2
 display-name-requires-2 c κs = start (back2 (back3 (back4 (c .before .before)))) .pre .1
 
--- src/lib.rt:62:5
 same-body-requires-5 : tie.Need-same-body-requires-5
 same-body-requires-5 c κs = search needs
 
--- src/lib.rt:46:1
 returns-5 : tie.Need-returns-5
 returns-5 c = rw (conversion-same (back2 (back3 (back4 (back5 c)))) ∙ not-false _ ((back3 (back4 (back5 c))) .before .before .before .if1 .left), extension-same (back3 (back4 (back5 c))) ∙ not-false _ ((back4 (back5 c)) .before .before .before .if2 .left), comment-same (back4 (back5 c)) ∙ not-false _ ((back5 c) .before .before .before .if3 .left), long-name-same (back5 c) ∙ not-false _ (c .before .before .before .if4 .left), display-name-same c)
 

@@ -1,39 +1,27 @@
 use Rattle.same_parts.proofs.Same.{inside}
-use Rattle.answers.specs.Differences.{sameBody}
-use Rattle.reading.specs.Steps.{bodyHeld}
-use mathlib.Core.Path.{sym, ap, ap₂, _∙_}
+use mathlib.Core.Path.{sym, _∙_}
 use borrow.Author.Needs.{needs}
 use Rattle.same_parts.proofs.same_body.Statement.{statement}
 use Rattle.same_parts.proofs.same_body.Tie as tie
-use Rattle.same_parts.proofs.same_body.Reads as reads
-use Rattle.same_parts.proofs.same_body.Lts as lts
-use Rattle.alike.proofs.same_part.Reads as same-part-reads
 
--- src/lib.rt:19:25
 enum-told : tie.Need-enum-told
 enum-told c = search needs
 
--- src/lib.rt:20:29
 enum-told-2 : tie.Need-enum-told-2
 enum-told-2 c = search needs
 
--- src/lib.rt:21:27
 enum-known-y : tie.Need-enum-known-y
 enum-known-y c = search needs
 
--- src/lib.rt:23:23
 enum-known-x : tie.Need-enum-known-x
 enum-known-x c = search needs
 
--- src/lib.rt:24:29
 enum-told-3 : tie.Need-enum-told-3
 enum-told-3 c = search needs
 
--- src/lib.rt:25:27
 enum-known-y-2 : tie.Need-enum-known-y-2
 enum-known-y-2 c = search needs
 
--- src/lib.rt:25:37
 same-part-requires : tie.Need-same-part-requires
 same-part-requires c κs =
     let y = c .before in
@@ -41,19 +29,15 @@ same-part-requires c κs =
     let start = x .before .before .before .before in
     (inside (start .args .a .now) (x .x .given .1) (start .pre .0), inside (start .args .b .now) (y .y2 .given .1) (start .pre .1))
 
--- src/lib.rt:14:1
 returns : tie.Need-returns
 returns c = search needs
 
--- src/lib.rt:14:1
 returns-2 : tie.Need-returns-2
 returns-2 c = search needs
 
--- src/lib.rt:14:1
 returns-3 : tie.Need-returns-3
 returns-3 c = search needs
 
--- src/lib.rt:14:1
 returns-4 : tie.Need-returns-4
 returns-4 c =
     let y = c .before .before in

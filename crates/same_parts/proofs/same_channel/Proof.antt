@@ -4,25 +4,17 @@ use borrow.Author.Tests.{not-true, not-false}
 use borrow.Author.Needs.{needs}
 use Rattle.same_parts.proofs.same_channel.Statement.{statement}
 use Rattle.same_parts.proofs.same_channel.Tie as tie
-use Rattle.same_parts.proofs.same_channel.Reads as reads
-use Rattle.same_parts.proofs.same_channel.Lts as lts
-use Rattle.same_parts.proofs.same_bodies.Reads as same-bodies-reads
-use Rattle.same_parts.proofs.same_fields.Reads as same-fields-reads
 
--- src/lib.rt:69:9
 same-fields-requires : tie.Need-same-fields-requires
 same-fields-requires c κs = search needs
 
--- src/lib.rt:70:9
 returns : tie.Need-returns
 returns c =
     first-other _ (sym (c .before .same-fields .ensures) ∙ not-true _ (c .if1 .taken)) ∙ channel-parts _ _
 
--- src/lib.rt:72:5
 same-bodies-requires : tie.Need-same-bodies-requires
 same-bodies-requires c κs = search needs
 
--- src/lib.rt:65:1
 returns-2 : tie.Need-returns-2
 returns-2 c =
     first-same (sym (c .before .before .same-fields .ensures) ∙ not-false _ (c .before .if1 .left)) (c .same-bodies .ensures) ∙ channel-parts _ _

@@ -3,25 +3,16 @@ use Rattle.same_parts.proofs.Same.{first-other, first-same}
 use Rattle.answers.specs.Differences.{sameBytes}
 use Rattle.reading.specs.Steps.{theChannel}
 use mathlib.Core.Path.{_≡_, sym, ap₂, _∙_}
-use mathlib.Core.Bool.{Bool}
 use borrow.Author.Needs.{needs}
 use Rattle.same_parts.proofs.same_fields.Statement.{statement}
 use Rattle.same_parts.proofs.same_fields.Tie as tie
-use Rattle.same_parts.proofs.same_fields.Reads as reads
-use Rattle.same_parts.proofs.same_fields.Lts as lts
-use Rattle.alike.proofs.same_padded.Reads as same-padded-reads
-use Rattle.alike.proofs.same_part.Reads as same-part-reads
-use Rattle.reading.proofs.Channel.fields.Reads as fields-reads
 
--- src/lib.rt:37:9
 fields-requires : tie.Need-fields-requires
 fields-requires c κs = search needs
 
--- src/lib.rt:38:9
 fields-requires-2 : tie.Need-fields-requires-2
 fields-requires-2 c κs = search needs
 
--- src/lib.rt:39:9
 same-part-requires : tie.Need-same-part-requires
 same-part-requires c κs = search needs
 
@@ -33,24 +24,19 @@ start c = c .before .before .before .before .before
 main-same : (c : tie.After-same-part) → sameBytes (theChannel (start c .args .a .now) (start c .args .x) .fields .main) (theChannel (start c .args .b .now) (start c .args .y) .fields .main) ≡ c .same-part .result
 main-same c = ap₂ (λ x y. sameBytes x y) (c .before .before .fields .ensures .main) (c .before .fields2 .ensures .main) ∙ sym (c .same-part .ensures)
 
--- src/lib.rt:40:9
 returns : tie.Need-returns
 returns c =
     first-other _ (main-same (c .before) ∙ not-true _ (c .if1 .taken))
 
--- src/lib.rt:42:27
 add-same-padded : tie.Need-add-same-padded
 add-same-padded c = search needs
 
--- src/lib.rt:42:55
 add-same-padded-2 : tie.Need-add-same-padded-2
 add-same-padded-2 c = search needs
 
--- src/lib.rt:42:5
 same-padded-requires : tie.Need-same-padded-requires
 same-padded-requires c κs = search needs
 
--- src/lib.rt:33:1
 returns-2 : tie.Need-returns-2
 returns-2 c =
     let main = c .before .before .before .before in

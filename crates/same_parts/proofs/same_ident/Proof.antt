@@ -4,17 +4,12 @@ use mathlib.Core.Path.{sym, ap₂, _∙_}
 use native.Mathlib.Omega.{arith}
 use Rattle.same_parts.proofs.same_ident.Statement.{statement}
 use Rattle.same_parts.proofs.same_ident.Tie as tie
-use Rattle.same_parts.proofs.same_ident.Reads as reads
-use Rattle.same_parts.proofs.same_ident.Lts as lts
-use Rattle.alike.proofs.same_part.Reads as same-part-reads
 
--- src/lib.rt:95:5
 same-part-requires : tie.Need-same-part-requires
 same-part-requires c κs =
     let start = c .before .before in
     (omega (arith, file-long _ _ (start .pre .0)), omega (arith, file-long _ _ (start .pre .1)))
 
--- src/lib.rt:91:1
 returns : tie.Need-returns
 returns c =
     let start = c .before .before .before in

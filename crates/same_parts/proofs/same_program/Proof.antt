@@ -2,24 +2,16 @@ use Rattle.same_parts.proofs.Same.{by-place}
 use borrow.Author.Needs.{needs}
 use Rattle.same_parts.proofs.same_program.Statement.{statement}
 use Rattle.same_parts.proofs.same_program.Tie as tie
-use Rattle.same_parts.proofs.same_program.Reads as reads
-use Rattle.same_parts.proofs.same_program.Lts as lts
-use Rattle.reading.proofs.File.program.Reads as program-reads
-use Rattle.same_parts.proofs.same_body.Reads as same-body-reads
 
--- src/lib.rt:134:18
 program-requires : tie.Need-program-requires
 program-requires c κs = search needs
 
--- src/lib.rt:134:35
 program-requires-2 : tie.Need-program-requires-2
 program-requires-2 c κs = search needs
 
--- src/lib.rt:134:5
 same-body-requires : tie.Need-same-body-requires
 same-body-requires c κs = search needs
 
--- src/lib.rt:130:1
 returns : tie.Need-returns
 returns c = by-place (c .same-body .ensures) (c .before .before .program .ensures) (c .before .program2 .ensures)
 
