@@ -1,15 +1,12 @@
--- Bytes with zeros behind them, by index; and lists of one length compared by index.
+-- Bytes with zeros behind them, by index.
 -- Assumes nothing.
 use Prim.Native.Nat.{ℕ, zero, suc, _+_, _-_, _≤_, _<_}
-use mathlib.Core.Path.{_≡_, refl, sym, _∙_}
-use mathlib.Core.Bool.{true, false}
+use mathlib.Core.Path.{_≡_, refl, _∙_}
 use mathlib.Core.List.{List, [], _∷_, _++_}
 use native.Mathlib.Omega.{arith}
 use native.Mathlib.Numerals.{add-one}
 use lib.ListN.{length, take, drop, getD, replicate, length-append, length-replicate, drop-of-length-le}
 use lib.Seq.{drop-cons}
-use borrow.Author.Tests.{eq-eqb, ne-eqb}
-use Rattle.answers.specs.Differences.{sameBytes}
 use Rattle.alike.specs.Padded.{padded}
 use Rattle.alike.proofs.Differing.{part-length}
 
@@ -42,23 +39,3 @@ module _ (a : List ℕ) (at held n : ℕ) (l : held ≤ length a - at) (h : held
   padded-end i g =
       let e : length (padded a at held n) ≤ i = omega (arith, padded-length) in
       drop-of-length-le (padded a at held n) e
-
--- ---- by index
-
--- xs and ys agree in the first i
-pub record Agree (xs ys : List ℕ) (i : ℕ) : Type 0 where
-  pub is : sameBytes xs ys ≡ sameBytes (drop i xs) (drop i ys)
-
-pub agree-none : (xs ys : List ℕ) → Agree xs ys 0
-agree-none xs ys = record { is = refl }
-
-module _ (xs ys : List ℕ) (i : ℕ) (p : Agree xs ys i) where
-  pub all-agree : drop i xs ≡ [] → drop i ys ≡ [] → true ≡ sameBytes xs ys
-  all-agree e f = sym (p .is ∙ rw (e, f))
-
-  module _ {x y : ℕ} {xs′ ys′ : List ℕ} (e : drop i xs ≡ x ∷ xs′) (f : drop i ys ≡ y ∷ ys′) where
-    pub one-differs : (x ≡ y → ⊥) → false ≡ sameBytes xs ys
-    one-differs d = sym (p .is ∙ rw (e, f, ne-eqb x y d))
-
-    pub one-agrees : x ≡ y → xs′ ≡ drop (i + 1) xs → ys′ ≡ drop (i + 1) ys → Agree xs ys (i + 1)
-    one-agrees s g h = record { is = p .is ∙ rw (e, f, eq-eqb x y s, g, h) }

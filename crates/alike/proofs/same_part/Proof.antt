@@ -43,8 +43,9 @@ loop-less c = search needs
 
 loop-again : tie.Need-loop-again Inv-loop μ-loop
 loop-again c =
-    let l = c .before .before .before .before .loop in
-    let s = c .before .before .before .before .before .before in
+    let v = c .before .before .before .before in
+    let l = v .loop in
+    let s = v .before .before in
     let xs = part (s .args .a .now) (s .args .at) (s .args .n) in
     let ys = part (s .args .b .now) (s .args .to) (s .args .m) in
     let g = part-next (s .args .a .now) (s .args .at) (s .args .n) (s .pre .0) (l .k) (omega arith) in
