@@ -8,7 +8,7 @@ ghost use Rattle.alike.specs.Padded.{padded};
 // The first place at which n bytes of `a` from `at` on and m bytes of `b` from `to` on differ; the shorter length where there is none.
 pub fn first_difference(a: &[u8], at: usize, n: usize, b: &[u8], to: usize, m: usize) -> usize
     requires { ⌜ (n ≤ length (now a) - at) × (m ≤ length (now b) - to) ⌝ }
-    ensures { λ r. ⌜ (r ≡ difference (take n (drop at (now (a .entry)))) (take m (drop to (now (b .entry))))) × (r ≤ n) × (r ≤ m) ⌝ }
+    ensures { λ r. ⌜ r ≡ difference (take n (drop at (now (a .entry)))) (take m (drop to (now (b .entry)))) ⌝ }
 {
     let mut i: usize = 0;
     while i < n {

@@ -1,6 +1,6 @@
 use borrow.Author.Needs.{needs}
 use Rattle.alike.proofs.Differing.{part, part-length, part-next, part-end, Seen, seen-none, seen-all, seen-other, seen-same, same-lengths}
-use Prim.Native.Nat.{_-_, _≤_}
+use Prim.Native.Nat.{_-_}
 use mathlib.Core.Path.{_≡_, refl, sym, _∙_}
 use mathlib.Core.Logic.{⊎-elim}
 use native.Mathlib.Omega.{arith}
@@ -8,7 +8,7 @@ use Rattle.alike.proofs.same_part.Statement.{statement}
 use Rattle.alike.proofs.same_part.Tie as tie
 
 abbrev Inv-loop : tie.InvT-loop
-Inv-loop a at n b to m differing₀ k₀ differing k = (k ≤ n) × (n ≡ m) × Seen (part a at n) (part b to m) differing k
+Inv-loop a at n b to m differing₀ k₀ differing k = (n ≡ m) × Seen (part a at n) (part b to m) differing k
 
 abbrev μ-loop : tie.MeasureT-loop
 μ-loop a at n b to m differing₀ k₀ differing k = n - k
@@ -21,7 +21,7 @@ returns c =
     same-lengths (part (s .args .a .now) (s .args .at) (s .args .n)) (part (s .args .b .now) (s .args .to) (s .args .m)) (λ e. c .if1 .taken (sym x ∙ e ∙ y))
 
 loop-holds : tie.Need-loop-holds Inv-loop μ-loop
-loop-holds c = (omega arith, c .if1 .left, seen-none _ _)
+loop-holds c = (c .if1 .left, seen-none _ _)
 
 add-if2 : tie.Need-add-if2 Inv-loop μ-loop
 add-if2 c = search needs
@@ -49,16 +49,16 @@ loop-again c =
     let xs = part (s .args .a .now) (s .args .at) (s .args .n) in
     let ys = part (s .args .b .now) (s .args .to) (s .args .m) in
     let g = part-next (s .args .a .now) (s .args .at) (s .args .n) (s .pre .0) (l .k) (omega arith) in
-    let h = part-next (s .args .b .now) (s .args .to) (s .args .m) (s .pre .1) (l .k) (omega (arith, l .inv .1)) in
-    (omega arith, l .inv .1, ⊎-elim (λ w. rw (w .1) (seen-other xs ys (l .differing) (l .k) (l .inv .2) g h (w .0 .taken))) (λ w. rw (w .1) (seen-same xs ys (l .differing) (l .k) (l .inv .2) g h (w .0 .left) refl refl)) (c .if2 .came))
+    let h = part-next (s .args .b .now) (s .args .to) (s .args .m) (s .pre .1) (l .k) (omega (arith, l .inv .0)) in
+    (l .inv .0, ⊎-elim (λ w. rw (w .1) (seen-other xs ys (l .differing) (l .k) (l .inv .1) g h (w .0 .taken))) (λ w. rw (w .1) (seen-same xs ys (l .differing) (l .k) (l .inv .1) g h (w .0 .left) refl refl)) (c .if2 .came))
 
 returns-2 : tie.Need-returns-2 Inv-loop μ-loop
 returns-2 c =
     let l = c .before .loop in
     let s = c .before .before .before in
     let g = part-end (s .args .a .now) (s .args .at) (s .args .n) (s .pre .0) (l .k) (omega arith) in
-    let h = part-end (s .args .b .now) (s .args .to) (s .args .m) (s .pre .1) (l .k) (omega (arith, l .inv .1)) in
-    seen-all _ _ _ (l .k) (l .inv .2) g h
+    let h = part-end (s .args .b .now) (s .args .to) (s .args .m) (s .pre .1) (l .k) (omega (arith, l .inv .0)) in
+    seen-all _ _ _ (l .k) (l .inv .1) g h
 
 pub same-part-spec : {M : Type 1} → statement M
 same-part-spec =

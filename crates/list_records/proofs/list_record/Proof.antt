@@ -31,7 +31,7 @@ returns-2 c =
     let byte = put .before .before in
     let same = byte .before .before in
     let start = same .before .before .before .before in
-    listed-as (put .list-entry .ensures) (ap₂ (λ t k. unless t (entry 4 (start .args .group) (start .args .item) k)) (sym (byte .before .if1 .left) ∙ same .same-part .ensures) (byte .first-difference .ensures .0))
+    listed-as (put .list-entry .ensures) (ap₂ (λ t k. unless t (entry 4 (start .args .group) (start .args .item) k)) (sym (byte .before .if1 .left) ∙ same .same-part .ensures) (byte .first-difference .ensures))
 
 pub list-record-spec : {M : Type 1} → statement M
 list-record-spec =
