@@ -15,11 +15,9 @@ pub alone-next : {A : Type 0} (kind g i j : ℕ) {xs xs′ : List A} {x : A} →
 unfolding alone
 alone-next kind g i j e k = rw (e, k, add-one)
 
-module _ (g i : ℕ) (cs ds : List Channel) where
-  -- the first has no more
-  pub none-left : cs ≡ [] → channelEntries g i cs ds ≡ alone 3 g i ds
-  unfolding channelEntries
-  none-left e = rw e
+pub none-left : (g i : ℕ) (cs ds : List Channel) → cs ≡ [] → channelEntries g i cs ds ≡ alone 3 g i ds
+unfolding channelEntries
+none-left g i cs ds e = rw e
 
 pub none-right : (g i : ℕ) (cs ds : List Channel) → ds ≡ [] → channelEntries g i cs ds ≡ alone 3 g i cs
 unfolding channelEntries alone

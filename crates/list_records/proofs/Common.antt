@@ -18,7 +18,7 @@ use Rattle.list_records.specs.Common.{commonEntries}
 
 -- ---- all entries: those of common records, then those of the rest
 
-pub more-right : (g i : ℕ) (xs ys : List (List ℕ)) → length xs ≤ length ys → recordEntries g i xs ys ≡ commonEntries g i xs ys ++ numbered 5 g (i + length xs) (length ys - length xs)
+more-right : (g i : ℕ) (xs ys : List (List ℕ)) → length xs ≤ length ys → recordEntries g i xs ys ≡ commonEntries g i xs ys ++ numbered 5 g (i + length xs) (length ys - length xs)
 unfolding recordEntries commonEntries
 more-right g i [] ys h =
     let e : i + 0 ≡ i = omega arith in
@@ -30,7 +30,7 @@ more-right g i (x ∷ xs) (y ∷ ys) h =
     let k : suc (length ys) - suc (length xs) ≡ length ys - length xs = omega arith in
     rw (e, k, append-assoc) (ap (λ es. unless (sameBytes x y) (entry 4 g i (difference x y)) ++ es) (more-right g (suc i) xs ys (omega arith)))
 
-pub more-left : (g i : ℕ) (xs ys : List (List ℕ)) → length ys ≤ length xs → recordEntries g i xs ys ≡ commonEntries g i xs ys ++ numbered 5 g (i + length ys) (length xs - length ys)
+more-left : (g i : ℕ) (xs ys : List (List ℕ)) → length ys ≤ length xs → recordEntries g i xs ys ≡ commonEntries g i xs ys ++ numbered 5 g (i + length ys) (length xs - length ys)
 unfolding recordEntries commonEntries alone
 more-left g i [] [] h = sym (numbered-none 5 g (i + 0))
 more-left g i [] (y ∷ ys) h = absurd (omega arith)

@@ -31,7 +31,7 @@ by-length {P} n f g = go (leb n 2147483647) refl
     go true e = f (leb-true n 2147483647 e)
     go false e = g (leb-false n 2147483647 e)
 
-pub capped-near : (n : ℕ) → capped n ≤ 2147483648
+capped-near : (n : ℕ) → capped n ≤ 2147483648
 capped-near n = by-length n (λ h. omega (arith, capped-exact n h)) (λ h. omega (arith, capped-over n h))
 
 -- what is reached is exact as long as it is not too long
@@ -47,12 +47,12 @@ capped-sum m n =
     (λ h. ap (λ k. capped (k + n)) (capped-exact m h))
     (λ h. let e = capped-over m h in capped-over (capped m + n) (omega (arith, e)) ∙ sym (capped-over (m + n) (omega arith)))
 
-pub capped-self : (n : ℕ) → n ≤ 2147483648 → capped n ≡ n
+capped-self : (n : ℕ) → n ≤ 2147483648 → capped n ≡ n
 capped-self n h = by-length n (capped-exact n) (λ g. capped-over n g ∙ omega arith)
 
 -- ---- bytes
 
-pub entry-length : (e : Entry) → length (entryBytes e) ≡ 16
+entry-length : (e : Entry) → length (entryBytes e) ≡ 16
 entry-length e = refl
 
 pub entries-length : (es : List Entry) → length (entriesBytes es) ≡ 16 * length es
@@ -65,11 +65,11 @@ unfolding entriesBytes
 entries-append [] fs = refl
 entries-append (e ∷ es) fs = ap (λ bs. entryBytes e ++ bs) (entries-append es fs) ∙ sym (append-assoc (entryBytes e) (join (map entryBytes es)) (join (map entryBytes fs)))
 
-pub entries-none : entriesBytes [] ≡ []
+entries-none : entriesBytes [] ≡ []
 unfolding entriesBytes
 entries-none = refl
 
-pub entries-one : (kind group item byte : ℕ) → entriesBytes (entry kind group item byte ∷ []) ≡ entryParts kind group item byte
+entries-one : (kind group item byte : ℕ) → entriesBytes (entry kind group item byte ∷ []) ≡ entryParts kind group item byte
 unfolding entriesBytes
 entries-one kind group item byte = append-nil (entryBytes (entry kind group item byte))
 

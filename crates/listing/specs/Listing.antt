@@ -14,7 +14,7 @@ use Rattle.write.specs.Write.{Wrote}
 unfoldable pub capped : ℕ → ℕ
 capped n = cond (leb n 2147483647) n 2147483648
 
--- an entry as numbers are written: all in numbers, so that the function that gives it needs no proof
+-- the bytes of an entry by its four numbers, so that the function that gives them needs no proof
 abbrev pub entryParts : ℕ → ℕ → ℕ → ℕ → List ℕ
 entryParts kind group item byte = bytesOf 2 kind ++ bytesOf 2 0 ++ bytesOf 4 group ++ bytesOf 4 item ++ bytesOf 4 byte
 
@@ -26,7 +26,7 @@ unfoldable pub numbered : ℕ → ℕ → ℕ → ℕ → List Entry
 numbered kind g i zero = []
 numbered kind g i (suc n) = entry kind g i 0 ∷ numbered kind g (suc i) n
 
--- entries behind `at` bytes of a list, whose length with them is `to`. Where the output holds them they are written, and nothing else is; where it does not, it is only as long as it was
+-- entries behind `at` bytes of a list, whose length with them is `to`. Where the output has room for them and the list is not too long they are written, and nothing else is; else of the output only its length is kept
 pub record Listed (out out₁ : List ℕ) (at to : ℕ) (es : List Entry) : Type 0 where
   pub kept : length out₁ ≡ length out
   pub reached : to ≡ capped (at + 16 * length es)

@@ -46,7 +46,9 @@ list-alone-requires c κs =
 same-length : tie.Need-same-length Inv-loop μ-loop
 same-length c =
     let put = c .before .before in
-    put .list-alone .ensures .kept ∙ l.same-length (put .before .before .before .before .before .before .loop .inv .3)
+    let told = put .before .before in
+    let w = told .before .before .before .before in
+    put .list-alone .ensures .kept ∙ l.same-length (w .loop .inv .3)
 
 returns : tie.Need-returns Inv-loop μ-loop
 returns c =

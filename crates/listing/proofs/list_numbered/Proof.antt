@@ -1,7 +1,7 @@
 use Rattle.listing.specs.Listing.{capped, numbered, Listing}
 use Rattle.listing.proofs.Laws as l
 use Rattle.answers.specs.Differences.{entry}
-use Prim.Native.Nat.{_+_, _*_, _-_, _≤_}
+use Prim.Native.Nat.{_+_, _*_, _-_}
 use lib.ListN.{length}
 use mathlib.Core.List.{[], _∷_}
 use mathlib.Core.Path.{_≡_, sym, ap, _∙_}
@@ -10,7 +10,7 @@ use Rattle.listing.proofs.list_numbered.Statement.{statement}
 use Rattle.listing.proofs.list_numbered.Tie as tie
 
 abbrev Inv-loop : tie.InvT-loop
-Inv-loop out₀ at kind group item n end to₀ i₀ out to i = (i ≤ n) × Listing (numbered kind group item n) out₀ out at to (numbered kind group (item + i) (n - i))
+Inv-loop out₀ at kind group item n end to₀ i₀ out to i = Listing (numbered kind group item n) out₀ out at to (numbered kind group (item + i) (n - i))
 
 abbrev μ-loop : tie.MeasureT-loop
 μ-loop out₀ at kind group item n end to₀ i₀ out to i = n - i
@@ -51,7 +51,7 @@ loop-holds c =
     let start = c .before .before .before .before in
     let i : start .args .item + 0 ≡ start .args .item = omega arith in
     let n : start .args .n - 0 ≡ start .args .n = omega arith in
-    (omega arith, rw (i, n) (l.begin (start .args .at) (start .pre .0)))
+    rw (i, n) (l.begin (start .args .at) (start .pre .0))
 
 -- ---- a turn
 
@@ -67,7 +67,7 @@ add-list-entry c =
     omega (arith, start w .pre .1, start w .pre .2, w .loop-test .taken)
 
 list-entry-requires : tie.Need-list-entry-requires Inv-loop μ-loop
-list-entry-requires c κs = l.so-far (c .before .before .loop .inv .1)
+list-entry-requires c κs = l.so-far (c .before .before .loop .inv)
 
 add-i : tie.Need-add-i Inv-loop μ-loop
 add-i c =
@@ -82,17 +82,18 @@ loop-again c =
     let w = at-loop c in
     let a = start w .args in
     let i = w .before .loop .i in
-    (omega (arith, w .loop-test .taken), l.turn (w .before .loop .inv .1) (entry (a .kind) (a .group) (a .item + i) 0 ∷ []) (l.numbered-next (a .kind) (a .group) (a .item) i (a .n) (w .loop-test .taken)) (c .before .before .list-entry .ensures))
+    l.turn (w .before .loop .inv) (entry (a .kind) (a .group) (a .item + i) 0 ∷ []) (l.numbered-next (a .kind) (a .group) (a .item) i (a .n) (w .loop-test .taken)) (c .before .before .list-entry .ensures)
 
 same-length : tie.Need-same-length Inv-loop μ-loop
-same-length c = l.same-length (c .before .loop .inv .1)
+same-length c = l.same-length (c .before .loop .inv)
 
 returns-3 : tie.Need-returns-3 Inv-loop μ-loop
 returns-3 c =
-    let w = c .before .loop in
-    let a = c .before .before .before .before .before .before .args in
-    let n : a .n - w .i ≡ 0 = omega (arith, c .loop-test .left) in
-    l.end (w .inv .1) (ap (numbered (a .kind) (a .group) (a .item + w .i)) n ∙ l.numbered-none (a .kind) (a .group) (a .item + w .i))
+    let w = c .before in
+    let a = w .before .before .before .before .before .args in
+    let i = w .loop .i in
+    let n : a .n - i ≡ 0 = omega (arith, c .loop-test .left) in
+    l.end (w .loop .inv) (ap (numbered (a .kind) (a .group) (a .item + i)) n ∙ l.numbered-none (a .kind) (a .group) (a .item + i))
 
 pub list-numbered-spec : {M : Type 1} → statement M
 list-numbered-spec =
