@@ -35,6 +35,7 @@ struct file {
     size_t length, copy, list; /* of the image, of its copy, and of the difference list */
     uint8_t *image, *to[READ];
     uint8_t *same, *other; /* the image once more, and the one it is compared with; only where that is done */
+    size_t other_length;
     uint8_t answer[MEMCPY][MDF3_ANSWER_SIZE];
 };
 
@@ -77,7 +78,7 @@ static uint32_t answer_by(enum who who, enum call call, struct file *f)
     if (call == COPY)
         return by->copy(f->image, f->length, f->to[who], f->copy, answer);
     if (call == COMPARE)
-        return by->compare(f->image, f->length, f->other, f->length, f->to[who], f->list, answer);
+        return by->compare(f->image, f->length, f->other, f->other_length, f->to[who], f->list, answer);
     return by->sample(f->image, f->length, f->shape.groups - 1, f->shape.channels - 1, 1, answer);
 }
 
@@ -212,23 +213,32 @@ static void open_file(struct file *f, const struct shape *s, unsigned number)
 static size_t needed_list(const struct file *f)
 {
     uint8_t answer[MDF3_ANSWER_SIZE], none;
-    uint32_t number = mdf3_compare(f->image, f->length, f->other, f->length, &none, 0, answer);
+    uint32_t number = mdf3_compare(f->image, f->length, f->other, f->other_length, &none, 0, answer);
     if (number != MDF3_OK && number != MDF3_NO_ROOM)
         fail("no length of the list");
     return (size_t)mdf3_place(answer);
 }
 
-/* The other file of a comparison: the same, or with every nth record changed, n being "every". */
+/* What a file is compared with: the same, its canonical copy, or the same with every nth record changed. */
+enum { SAME = 0, ITS_COPY = 1 };
+
 static void open_other(struct file *f, unsigned every)
 {
+    uint8_t answer[MDF3_ANSWER_SIZE];
     f->same = memory(f->length);
-    f->other = memory(f->length);
     memcpy(f->same, f->image, f->length);
-    memcpy(f->other, f->image, f->length);
-    if (every > 0)
-        change_records(f->other, f->length, &f->shape, every);
+    f->other_length = every == ITS_COPY ? f->copy : f->length;
+    f->other = memory(f->other_length);
+    if (every == ITS_COPY) {
+        if (mdf3_copy(f->image, f->length, f->other, f->copy, answer) != MDF3_OK)
+            fail("no copy");
+    } else {
+        memcpy(f->other, f->image, f->length);
+        if (every != SAME)
+            change_records(f->other, f->length, &f->shape, every);
+    }
     f->list = needed_list(f);
-    if ((f->list == 0) != (every == 0))
+    if ((f->list == 0) != (every <= ITS_COPY))
         fail("the list is another");
 }
 
@@ -289,16 +299,18 @@ static void bench_compare(const struct shape *s, unsigned every, const char *don
     close_files(files, s);
 }
 
-/* What a file is compared with: itself, or with every nth record changed, in a small file two to four. */
+/* In a small file two to four records are changed. */
 static const struct {
     const char *name;
     unsigned every;
-} others[] = {{"equal", 0}, {"1 of 500 records differs", 500}};
+} others[] = {{"equal", SAME}, {"its canonical copy", ITS_COPY}, {"1 of 500 records differs", 500}};
 
 static const struct shape compared[] = {
     {"64 MB sorted", 64u << 20, 0, 1, 4, 16, 16, 1, 0},
     {"64 MB unsorted, 8 groups", 64u << 20, 1, 8, 4, 8, 64, 1, 0},
     {"64 MB unsorted, 8 groups, random order", 64u << 20, 1, 8, 4, 8, 64, 1, 1},
+    {"16 MB unsorted, 40 groups", 16u << 20, 1, 40, 4, 8, 64, 1, 0},
+    {"16 MB unsorted, 160 groups", 16u << 20, 1, 160, 4, 8, 64, 1, 0},
     {"16,000 channels", 4u << 20, 0, 1, 16000, 64, 64, 1, 0},
     {"2,000 files of 30 KB", 30u << 10, 1, 3, 4, 8, 20, 2000, 0},
 };

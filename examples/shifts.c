@@ -2,9 +2,8 @@
  *
  *   shifts FILE OTHER
  *
- * Neither file has to be checked first, and in neither have the blocks to stand in the same order. The exit status is 0 for
- * files that say the same, 1 for files that differ, 2 for a file that is refused or for an argument, a file, memory or an
- * output that failed. `mdf3 compare` says it in more words: with the names of channels, and which file has an item alone.
+ * Neither file has to be checked first, and their blocks may stand in any order. The exit status is 0 for files that say the
+ * same, 1 for files that differ, 2 for a file that is refused or for an argument, a file, memory or an output that failed. `mdf3 compare` says it in more words: with the names of channels, and which file has an item alone.
  *
  * This is C99 and C++. */
 #include "mdf3.h"
@@ -77,7 +76,7 @@ static void tell(const uint8_t *entry)
             printf("group %u, channel %u\n", group, item - 1);
         break;
     case MDF3_ENTRY_RECORD:
-        printf("group %u, record %u, from byte %u on\n", group, item, (unsigned)mdf3_entry_byte(entry));
+        printf("group %u, record %u, first differs at byte %u\n", group, item, (unsigned)mdf3_entry_byte(entry));
         break;
     default:
         printf("group %u, record %u, in one file only\n", group, item);
@@ -92,7 +91,7 @@ static int tell_all(struct bytes one, struct bytes other, size_t length)
     if (list == NULL)
         return trouble(other.name, "no memory for its differences");
     compare(one, other, list, length, answer);
-    printf("%s, %s: %zu differences\n", one.name, other.name, length / MDF3_ENTRY_SIZE);
+    printf("%s, %s: differences: %zu\n", one.name, other.name, length / MDF3_ENTRY_SIZE);
     for (size_t at = 0; at < length; at += MDF3_ENTRY_SIZE)
         tell(list + at);
     free(list);
@@ -106,7 +105,7 @@ static int judge(struct bytes one, struct bytes other)
     uint32_t number = compare(one, other, &none, 0, answer);
     switch (number) {
     case MDF3_OK:
-        printf("%s, %s: same shift, same readings\n", one.name, other.name);
+        printf("%s, %s: both say the same\n", one.name, other.name);
         return 0;
     case MDF3_NO_ROOM:
         return tell_all(one, other, (size_t)mdf3_place(answer));

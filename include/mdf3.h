@@ -5,9 +5,9 @@
  * numbers below and fills an answer of 32 bytes. No call keeps a pointer,
  * allocates memory, reads a clock or a file, or has a state: calls from
  * several threads at once are fine as long as no memory that one of them
- * writes is used by another. Every call checks the whole image, mdf3_compare
- * both, so reading a channel record by record costs a check of the file for
- * each record.
+ * writes is used by another. Every call checks its whole image, mdf3_compare
+ * both of its images. So reading a channel record by record costs a check of
+ * the file for each record.
  *
  * What the caller must keep, for each call:
  *   - image points to image_len bytes that can be read, and that nobody

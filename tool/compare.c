@@ -128,7 +128,7 @@ static void print_channel(struct side *one, struct side *other, uint32_t number)
 static void print_record(const struct side *one, uint32_t number, uint32_t byte)
 {
     const struct holder *h = holder_of(&one->f, one->group.cg, byte);
-    printf(", record %" PRIu32 ": differs from byte %" PRIu32 " on", number, byte);
+    printf(", record %" PRIu32 ": first differs at byte %" PRIu32 "", number, byte);
     if (h->cn == 0)
         return;
     printf(" (channel %" PRIu32, h->channel);

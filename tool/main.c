@@ -23,7 +23,7 @@ static const char usage[] =
 static const char help[] =
     "\n"
     "FILE is an MDF 3 file (versions 3.00 to 3.99), - for standard input. Groups, channels and records count from 0, as list\n"
-    "shows them. A line of an answer has a number and a place: 0 0, or why the file is refused and at which byte. OUT is\n"
+    "shows them. Check and copy answer with a number and a place: 0 0, or why a file is refused and at which byte. OUT is\n"
     "written whole or not at all, never where it is FILE, and cannot be -. Behind a -- names may begin with -.\n"
     "compare prints one line for each difference and how many there are, with -q nothing.\n"
     "\n"

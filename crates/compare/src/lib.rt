@@ -25,10 +25,10 @@ fn list_file(out: &mut [u8], at: usize, a: &[u8], f: File, b: &[u8], g: File) ->
     let header = same_parts::same_header(a, f, b, g);
     let comment = same_parts::same_comment(a, f, b, g);
     let program = same_parts::same_program(a, f, b, g);
-    let first = listing::list_unless(out, at, ident, 1, 0, 0);
-    let second = listing::list_unless(out, first, header, 1, 0, 1);
-    let third = listing::list_unless(out, second, comment, 1, 0, 2);
-    listing::list_unless(out, third, program, 1, 0, 3)
+    let after_ident = listing::list_unless(out, at, ident, 1, 0, 0);
+    let after_header = listing::list_unless(out, after_ident, header, 1, 0, 1);
+    let after_comment = listing::list_unless(out, after_header, comment, 1, 0, 2);
+    listing::list_unless(out, after_comment, program, 1, 0, 3)
 }
 
 // The whole list.

@@ -25,17 +25,17 @@ fn list_group(
     ensures { λ r. ⌜ Listed (now (out .entry)) (now (out .exit)) at r (groupEntries number (theGroup (now (a .entry)) g) (theGroup (now (b .entry)) h)) ⌝ }
 {
     let same = same_parts::same_own(a, g, b, h);
-    let channels = listing::list_unless(out, at, same, 3, number, 0);
+    let own_end = listing::list_unless(out, at, same, 3, number, 0);
     let x = g.channels(a);
     let y = h.channels(b);
-    let records = list_channels::list_channels(out, channels, a, x, b, y, number);
+    let channels_end = list_channels::list_channels(out, own_end, a, x, b, y, number);
     if known {
-        return records;
+        return channels_end;
     }
-    list_records::list_records(out, records, a, g, b, h, number)
+    list_records::list_records(out, channels_end, a, g, b, h, number)
 }
 
-// The groups that are left in one file.
+// The groups that are left in one file, behind `at` bytes of a list.
 fn list_alone(out: &mut [u8], at: usize, image: &[u8], groups: Groups) -> usize
     requires { ⌜ AtGroups (now image) groups × (at ≤ 2147483648) ⌝ }
     ensures { λ r. ⌜ Listed (now (out .entry)) (now (out .exit)) at r (groupsAlone (groups .index) (groupsLeft (now (image .entry)) groups)) ⌝ }
@@ -52,6 +52,7 @@ fn list_alone(out: &mut [u8], at: usize, image: &[u8], groups: Groups) -> usize
     to
 }
 
+// Whether a data group begins in both files. It only saves time: what is marked is right for any answer.
 fn both(x: bool, y: bool) -> bool {
     if x {
         return y;

@@ -115,26 +115,6 @@ pub extern "C" fn mdf3_copy(image: &[u8], out: &mut [u8], answer: &mut [u8; 32])
     }
 }
 
-fn wide(x: u32) -> u64
-    ensures { λ r. ⌜ r ≡ x ⌝ }
-{
-    x as u64
-}
-
-// A sample as the answer holds it.
-fn sample_bytes(s: Stored) -> [u8; 32]
-    requires { ⌜ SignedFits s ⌝ }
-    ensures { λ r. ⌜ r ≡ storedBytes (storedOf s) ⌝ }
-{
-    match s {
-        Stored::Unsigned(n) => answer_bytes(0, n, 0, 1),
-        Stored::Signed(bits, n) => answer_bytes(0, bits::twos_complement(bits, n), 0, 2),
-        Stored::Single(n) => answer_bytes(0, wide(n), 0, 3),
-        Stored::Double(n) => answer_bytes(0, n, 0, 4),
-        Stored::Part(at, n) => answer_bytes(0, at as u64, n as u64, 5),
-    }
-}
-
 // The list of the differences of two images in the output: the number is returned, the answer holds the place, or the length of the list as its value.
 #[no_mangle]
 pub extern "C" fn mdf3_compare(
@@ -156,6 +136,26 @@ pub extern "C" fn mdf3_compare(
             *answer = answer_bytes(position as u64, 0, 0, 0);
             fault
         }
+    }
+}
+
+fn wide(x: u32) -> u64
+    ensures { λ r. ⌜ r ≡ x ⌝ }
+{
+    x as u64
+}
+
+// A sample as the answer holds it.
+fn sample_bytes(s: Stored) -> [u8; 32]
+    requires { ⌜ SignedFits s ⌝ }
+    ensures { λ r. ⌜ r ≡ storedBytes (storedOf s) ⌝ }
+{
+    match s {
+        Stored::Unsigned(n) => answer_bytes(0, n, 0, 1),
+        Stored::Signed(bits, n) => answer_bytes(0, bits::twos_complement(bits, n), 0, 2),
+        Stored::Single(n) => answer_bytes(0, wide(n), 0, 3),
+        Stored::Double(n) => answer_bytes(0, n, 0, 4),
+        Stored::Part(at, n) => answer_bytes(0, at as u64, n as u64, 5),
     }
 }
 

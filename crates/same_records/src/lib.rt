@@ -11,7 +11,7 @@ ghost use Rattle.reading.specs.Promise.{logAt};
 ghost use Rattle.reading.specs.Steps.{AtGroup, AtLog, logLeft, theGroup, unsorted};
 ghost use Rattle.same_records.specs.Marks.{Told};
 
-// Marks the keys of records that differ. Whether both have the same keys in the same order; else the marks say nothing.
+// Marks the keys of records that differ. Tells whether both have the same keys in the same order; else the marks say nothing.
 fn mark_logs(
     marks: &mut [u8],
     a: &[u8],
@@ -60,7 +60,7 @@ fn mark_unsorted(marks: &mut [u8], a: &[u8], g: Group, b: &[u8], h: Group) -> bo
     mark_logs(marks, a, &sizes, x, b, &others, y)
 }
 
-// Marks anew where a data group begins in both files; else what was told of it holds on. No where one of them is sorted.
+// Marks anew where a data group begins in both files; else what was told of it holds on. False where one of them is sorted.
 pub fn mark(
     marks: &mut [u8],
     a: &[u8],

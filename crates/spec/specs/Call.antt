@@ -42,6 +42,7 @@ copying image room = do
   _ ← require (leb (copyLength r) room) 13 (copyLength r)
   accepted r
 
+-- what a call that fills an output gives, and leaves in it
 pub record CopyOutcome : Type 0 where
   pub given : Outcome ℕ  -- the value: the length written
   pub memory : List ℕ

@@ -23,7 +23,7 @@ entry kind group item byte = record { kind = kind; group = group; item = item; b
 abbrev pub entry-size : ℕ
 entry-size = 16
 
--- kind, two zero bytes, group, item, byte place
+-- its numbers one behind the other, each with its lowest byte first; bytes 2 and 3 are zeros
 abbrev pub entryBytes : Entry → List ℕ
 entryBytes e = join (bytesOf 2 (e .kind) ∷ bytesOf 2 0 ∷ bytesOf 4 (e .group) ∷ bytesOf 4 (e .item) ∷ bytesOf 4 (e .byte) ∷ [])
 

@@ -93,7 +93,7 @@ EntriesAreOrdered = (r s : Reading) → Ordered (differences r s)
 abbrev pub ListIsDetermined : Type 0
 ListIsDetermined = (r s : Reading) (es : List Entry) → Ordered es → ((e : Entry) → List·Memᴰ e es ↔ Due r s e) → es ≡ differences r s
 
--- it does not count which file is the first
+-- which file is the first makes no difference
 abbrev pub ListIsSymmetric : Type 0
 ListIsSymmetric = (r s : Reading) → differences r s ≡ differences s r
 
@@ -151,7 +151,7 @@ CompareNeedsRoom =
     → length out < listLength r s
     → compareOutcome a b out ≡ record { given = record { number = 13; place = listLength r s; value = none }; memory = out }
 
--- it writes nothing exactly when the readings are equal
+-- its value is 0 exactly when the readings are equal
 abbrev pub ListIsEmptyExactlyWhenReadingsAreEqual : Type 0
 ListIsEmptyExactlyWhenReadingsAreEqual =
     (a b : List ℕ) (r s : Reading) → reads a ≡ accepted r → reads b ≡ accepted s → (out : List ℕ) → (compareOutcome a b out .given .value ≡ some 0) ↔ (r ≡ s)
