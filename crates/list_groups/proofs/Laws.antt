@@ -6,7 +6,7 @@ use mathlib.Core.Bool.{Bool, true, false}
 use mathlib.Core.List.{List, [], _∷_, _++_}
 use native.Mathlib.Numerals.{add-one}
 use Rattle.answers.specs.Readings.{Channel, Group}
-use Rattle.answers.specs.Differences.{Entry, entry, unless, sameOwn, alone, channelEntries, recordEntries, groupEntries, groupsAlone, groupsEntries}
+use Rattle.answers.specs.Differences.{entry, unless, sameOwn, alone, channelEntries, recordEntries, groupEntries, groupsAlone, groupsEntries}
 use Rattle.answers.proofs.Laws.{same-refl}
 use Rattle.reading.specs.Promise.{logAt, recordsWith}
 use Rattle.reading.specs.declared.Group.{Group as CursorGroup}
@@ -17,7 +17,7 @@ use Rattle.same_records.specs.Marks.{Told}
 use Rattle.same_records.proofs.Marks.{untold, told-as}
 use lib.ListN.{length}
 use Rattle.listing.specs.Listing.{Listed}
-use Rattle.listing.proofs.Laws.{listed-as, listed-then}
+use Rattle.listing.proofs.Laws.{listed-then}
 
 -- ---- one group
 

@@ -9,8 +9,6 @@ use lib.Dec.{eqb}
 use lib.ListN.{length, set, getD}
 use lib.Seq.{getD-set-same, getD-set-other}
 use borrow.Author.Tests.{eqb-true, eqb-false}
-use Rattle.answers.specs.Differences.{sameBytes}
-use Rattle.answers.proofs.Laws.{same-equal}
 use Rattle.reading.specs.Promise.{Keyed, logAt, recordsWith}
 use Rattle.reading.specs.declared.Group.{Group}
 use Rattle.reading.specs.Steps.{AtGroup, theGroup, keyOf}

@@ -1,20 +1,14 @@
 use mathlib.Core.Bool.{true≢false}
 use mathlib.Core.Path.{sym}
-use borrow.Author.Needs.{needs}
 use Rattle.list_groups.proofs.holds_on.Statement.{statement}
 use Rattle.list_groups.proofs.holds_on.Tie as tie
-use Rattle.list_groups.proofs.holds_on.Reads as reads
-use Rattle.list_groups.proofs.holds_on.Lts as lts
 
--- src/lib.rt:67:9
 returns : tie.Need-returns
 returns c = λ e. absurd (true≢false (sym e))
 
--- src/lib.rt:70:9
 returns-2 : tie.Need-returns-2
 returns-2 c = λ e. absurd (true≢false (sym e))
 
--- src/lib.rt:63:1
 returns-3 : tie.Need-returns-3
 returns-3 c = λ e. (e, c .before .if1 .left, c .if2 .left)
 

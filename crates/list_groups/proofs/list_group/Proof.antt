@@ -6,36 +6,23 @@ use Rattle.reading.specs.Steps.{theGroup}
 use Rattle.list_groups.proofs.Laws.{channels-from, group-listed, same-records}
 use mathlib.Core.List.{List}
 use mathlib.Core.Path.{sym, ap, _∙_}
-use native.Mathlib.Omega.{arith}
 use Prim.Native.Nat.{ℕ}
 use borrow.Author.Needs.{needs}
 use Rattle.list_groups.proofs.list_group.Statement.{statement}
 use Rattle.list_groups.proofs.list_group.Tie as tie
-use Rattle.list_groups.proofs.list_group.Reads as reads
-use Rattle.list_groups.proofs.list_group.Lts as lts
-use Rattle.list_channels.proofs.list_channels.Reads as list-channels-reads
-use Rattle.list_records.proofs.list_records.Reads as list-records-reads
-use Rattle.listing.proofs.list_unless.Reads as list-unless-reads
-use Rattle.reading.proofs.Group.channels.Reads as channels-reads
-use Rattle.same_parts.proofs.same_own.Reads as same-own-reads
 
--- src/lib.rt:27:9
 same-own-requires : tie.Need-same-own-requires
 same-own-requires c κs = search needs
 
--- src/lib.rt:28:9
 list-unless-requires : tie.Need-list-unless-requires
 list-unless-requires c κs = search needs
 
--- src/lib.rt:29:9
 channels-requires : tie.Need-channels-requires
 channels-requires c κs = search needs
 
--- src/lib.rt:30:9
 channels-requires-2 : tie.Need-channels-requires-2
 channels-requires-2 c κs = search needs
 
--- src/lib.rt:31:9
 list-channels-requires : tie.Need-list-channels-requires
 list-channels-requires c κs =
     let y = c .before in
@@ -68,27 +55,22 @@ with-records c records =
     (listed-as (c .list-channels .ensures) (channels-from n (x .channels .ensures .3) (x .channels .ensures .2) (y .channels2 .ensures .2)))
     records
 
--- src/lib.rt:33:9
 same-length : tie.Need-same-length
 same-length c = search needs
 
--- src/lib.rt:33:9
 returns : tie.Need-returns
 returns c =
     let channels = c .before .before .before in
     with-records channels (listed-as (listed-none _ (near (channels .list-channels .ensures))) (same-records (start channels .args .number) 0 (start channels .pre .3 (c .if1 .taken))))
 
--- src/lib.rt:35:5
 list-records-requires : tie.Need-list-records-requires
 list-records-requires c κs =
     let channels = c .before .before .before .before in
     (start channels .pre .0, start channels .pre .1, near (channels .list-channels .ensures))
 
--- src/lib.rt:14:1
 same-length-2 : tie.Need-same-length-2
 same-length-2 c = search needs
 
--- src/lib.rt:14:1
 returns-2 : tie.Need-returns-2
 returns-2 c =
     let records = c .before .before in

@@ -7,7 +7,7 @@ use Rattle.reading.specs.declared.GroupStep.the-variants.{Next, Done}
 use Rattle.reading.specs.Steps.{AtGroups, GroupStepIs, endsDataGroup, groupsLeft, theGroup}
 use mathlib.Core.Bool.{true, false}
 use Rattle.list_groups.proofs.Laws.{none-left, none-right, both-next, Ahead, first-ahead, known-here, next-ahead}
-use Prim.Native.Nat.{ℕ, _+_}
+use Prim.Native.Nat.{_+_}
 use lib.ListN.{length}
 use Rattle.reading.specs.Promise.{logAt}
 use Rattle.same_records.specs.Marks.{Told}
@@ -16,17 +16,6 @@ use native.Mathlib.Omega.{arith}
 use borrow.Author.Needs.{needs}
 use Rattle.list_groups.proofs.list_groups.Statement.{statement}
 use Rattle.list_groups.proofs.list_groups.Tie as tie
-use Rattle.list_groups.proofs.list_groups.Reads as reads
-use Rattle.list_groups.proofs.list_groups.Lts as lts
-use Rattle.list_groups.proofs.list_alone.Reads as list-alone-reads
-use Rattle.list_groups.proofs.list_group.Reads as list-group-reads
-use Rattle.reading.proofs.Groups.next.Reads as next-reads
-use Rattle.reading.proofs.Groups.number.Reads as number-reads
-use Rattle.list_groups.proofs.both.Reads as both-reads
-use Rattle.list_groups.proofs.holds_on.Reads as holds-on-reads
-use Rattle.reading.proofs.Groups.ends_data_group.Reads as ends-data-group-reads
-use Rattle.same_records.proofs.known_same.Reads as known-same-reads
-use Rattle.same_records.proofs.mark.Reads as mark-reads
 
 abbrev Inv-loop : tie.InvT-loop
 Inv-loop out₀ at a b marks₀ begins₀ told₀ c₀ d₀ to₀ out marks begins told c d to =

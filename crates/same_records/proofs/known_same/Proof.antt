@@ -1,7 +1,7 @@
 use Rattle.same_records.proofs.Marks.{no-same, same-by, whatever}
 use Rattle.reading.specs.declared.Data.the-variants.{Mixed}
 use Rattle.reading.specs.Steps.{DataIs}
-use mathlib.Core.Path.{_≡_, refl, sym, ap, _∙_}
+use mathlib.Core.Path.{_∙_}
 use Prim.Native.Nat.{_<_}
 use lib.ListN.{length}
 use native.Mathlib.Omega.{arith}
@@ -9,64 +9,46 @@ use borrow.Author.Tests.{not-false, eqb-true}
 use borrow.Author.Needs.{needs}
 use Rattle.same_records.proofs.known_same.Statement.{statement}
 use Rattle.same_records.proofs.known_same.Tie as tie
-use Rattle.same_records.proofs.known_same.Reads as reads
-use Rattle.same_records.proofs.known_same.Lts as lts
-use Rattle.reading.proofs.Group.data.Reads as data-reads
-use Rattle.same_records.proofs.same_runs.Reads as same-runs-reads
 
--- src/lib.rt:143:9
 same-runs-requires : tie.Need-same-runs-requires
 same-runs-requires c κs = search needs
 
--- src/lib.rt:143:9
 returns : tie.Need-returns
 returns c = search needs
 
--- src/lib.rt:145:28
 data-requires : tie.Need-data-requires
 data-requires c κs = search needs
 
--- src/lib.rt:145:21
 enum-known-key : tie.Need-enum-known-key
 enum-known-key c = search needs
 
--- src/lib.rt:146:9
 enum-told : tie.Need-enum-told
 enum-told c = search needs
 
--- src/lib.rt:146:9
 returns-2 : tie.Need-returns-2
 returns-2 c = no-same
 
--- src/lib.rt:148:30
 data-requires-2 : tie.Need-data-requires-2
 data-requires-2 c κs = search needs
 
--- src/lib.rt:148:21
 enum-known-other : tie.Need-enum-known-other
 enum-known-other c = search needs
 
--- src/lib.rt:149:9
 enum-told-2 : tie.Need-enum-told-2
 enum-told-2 c = search needs
 
--- src/lib.rt:149:9
 returns-3 : tie.Need-returns-3
 returns-3 c = no-same
 
--- src/lib.rt:152:9
 returns-4 : tie.Need-returns-4
 returns-4 c = no-same
 
--- src/lib.rt:155:9
 returns-5 : tie.Need-returns-5
 returns-5 c = no-same
 
--- src/lib.rt:157:5
 shared-slice-read-result : tie.Need-shared-slice-read-result
 shared-slice-read-result c = search needs
 
--- src/lib.rt:138:1
 returns-6 : tie.Need-returns-6
 returns-6 c =
     let if3 = c .before in

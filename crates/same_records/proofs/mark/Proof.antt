@@ -6,40 +6,28 @@ use mathlib.Core.Path.{_≡_, sym}
 use borrow.Author.Needs.{needs}
 use Rattle.same_records.proofs.mark.Statement.{statement}
 use Rattle.same_records.proofs.mark.Tie as tie
-use Rattle.same_records.proofs.mark.Reads as reads
-use Rattle.same_records.proofs.mark.Lts as lts
-use Rattle.reading.proofs.Group.data.Reads as data-reads
-use Rattle.same_records.proofs.mark_unsorted.Reads as mark-unsorted-reads
 
--- src/lib.rt:67:27
 data-requires : tie.Need-data-requires
 data-requires c κs = search needs
 
--- src/lib.rt:67:21
 enum-known--k : tie.Need-enum-known--k
 enum-known--k c = search needs
 
--- src/lib.rt:68:9
 enum-told : tie.Need-enum-told
 enum-told c = search needs
 
--- src/lib.rt:68:9
 returns : tie.Need-returns
 returns c = (untold, λ e. absurd (true≢false (sym e)))
 
--- src/lib.rt:70:27
 data-requires-2 : tie.Need-data-requires-2
 data-requires-2 c κs = search needs
 
--- src/lib.rt:70:21
 enum-known--l : tie.Need-enum-known--l
 enum-known--l c = search needs
 
--- src/lib.rt:71:9
 enum-told-2 : tie.Need-enum-told-2
 enum-told-2 c = search needs
 
--- src/lib.rt:71:9
 returns-2 : tie.Need-returns-2
 returns-2 c = (untold, λ e. absurd (true≢false (sym e)))
 
@@ -57,24 +45,20 @@ both c =
     let y : DataIs (a .b .now) (a .h) (Mixed (right .-l .given .0 .0)) = rw (right .-l .given .1) at (right .before .before .data2 .ensures) in
     (x .0, y .0)
 
--- src/lib.rt:74:9
 mark-unsorted-requires : tie.Need-mark-unsorted-requires
 mark-unsorted-requires c κs =
     let w = c .before .before in
     let p = start w .pre in
     (p .0, p .1, p .2, both w .0, both w .1)
 
--- src/lib.rt:74:9
 same-length : tie.Need-same-length
 same-length c = search needs
 
--- src/lib.rt:74:9
 returns-3 : tie.Need-returns-3
 returns-3 c =
     let call = c .before .before in
     (call .mark-unsorted .ensures, λ e. both (call .before .before .before))
 
--- src/lib.rt:63:1
 returns-4 : tie.Need-returns-4
 returns-4 c =
     let w = c .before in

@@ -1,23 +1,17 @@
-use Rattle.answers.specs.Differences.{sameBytes}
 use Rattle.answers.proofs.Laws.{same-equal}
 use Rattle.reading.specs.Promise.{Keyed}
 use Rattle.reading.specs.declared.Log.{Log}
-use Rattle.reading.specs.declared.LogStep.the-variants.{Next, Done}
+use Rattle.reading.specs.declared.LogStep.the-variants.{Next}
 use Rattle.reading.specs.Steps.{AtLog, LogStepIs, logLeft}
 use Rattle.same_records.proofs.Marks.{untold, Marking, begin, end, same-on, mark-on}
-use Prim.Native.Nat.{ℕ}
-use mathlib.Core.List.{List, []}
+use mathlib.Core.List.{[]}
 use lib.ListN.{length, take, drop, length-set}
 use mathlib.Core.Path.{_≡_, refl, sym, ap, _∙_}
 use native.Mathlib.Omega.{arith}
-use borrow.Author.Tests.{not-true, not-false}
+use borrow.Author.Tests.{not-false}
 use borrow.Author.Needs.{needs}
 use Rattle.same_records.proofs.mark_logs.Statement.{statement}
 use Rattle.same_records.proofs.mark_logs.Tie as tie
-use Rattle.same_records.proofs.mark_logs.Reads as reads
-use Rattle.same_records.proofs.mark_logs.Lts as lts
-use Rattle.alike.proofs.same_part.Reads as same-part-reads
-use Rattle.reading.proofs.Log.next.Reads as next-reads
 
 abbrev Inv-loop : tie.InvT-loop
 Inv-loop marks₀ a sizes b others c₀ d₀ marks c d =

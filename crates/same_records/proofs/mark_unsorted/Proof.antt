@@ -1,44 +1,30 @@
 use Rattle.same_records.proofs.Marks.{told-as}
-use mathlib.Core.Path.{_≡_, _∙_}
-use native.Mathlib.Omega.{arith}
+use mathlib.Core.Path.{_∙_}
 use borrow.Author.Needs.{needs}
 use Rattle.same_records.proofs.mark_unsorted.Statement.{statement}
 use Rattle.same_records.proofs.mark_unsorted.Tie as tie
-use Rattle.same_records.proofs.mark_unsorted.Reads as reads
-use Rattle.same_records.proofs.mark_unsorted.Lts as lts
-use Rattle.reading.proofs.Group.log.Reads as log-reads
-use Rattle.same_records.proofs.mark_logs.Reads as mark-logs-reads
-use Rattle.write.proofs.put_zeros.Reads as put-zeros-reads
 
--- src/lib.rt:54:5
 put-zeros-requires : tie.Need-put-zeros-requires
 put-zeros-requires c κs = search needs
 
--- src/lib.rt:57:22
 slice-aggregate-log : tie.Need-slice-aggregate-log
 slice-aggregate-log c = search needs
 
--- src/lib.rt:57:9
 log-requires : tie.Need-log-requires
 log-requires c κs = search needs
 
--- src/lib.rt:58:22
 slice-aggregate-log-2 : tie.Need-slice-aggregate-log-2
 slice-aggregate-log-2 c = search needs
 
--- src/lib.rt:58:9
 log-requires-2 : tie.Need-log-requires-2
 log-requires-2 c κs = search needs
 
--- src/lib.rt:59:25
 slice-aggregate-mark-logs : tie.Need-slice-aggregate-mark-logs
 slice-aggregate-mark-logs c = search needs
 
--- src/lib.rt:59:39
 slice-aggregate-mark-logs-2 : tie.Need-slice-aggregate-mark-logs-2
 slice-aggregate-mark-logs-2 c = search needs
 
--- src/lib.rt:59:5
 mark-logs-requires : tie.Need-mark-logs-requires
 mark-logs-requires c κs =
     let y = c .before .before .before .before in
@@ -47,11 +33,9 @@ mark-logs-requires c κs =
     let start = zeros .before .before .before .before .before in
     (x .log .ensures .0, y .log2 .ensures .0, zeros .put-zeros .kept .0 ∙ start .pre .2)
 
--- src/lib.rt:50:1
 same-length : tie.Need-same-length
 same-length c = search needs
 
--- src/lib.rt:50:1
 returns : tie.Need-returns
 returns c =
     let call = c .before .before in

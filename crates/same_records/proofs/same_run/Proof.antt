@@ -1,17 +1,13 @@
 use Rattle.same_records.proofs.Runs.{part-on}
 use Rattle.answers.proofs.Laws.{same-equal}
 use Prim.Native.Nat.{_+_, _-_, _≤_}
-use lib.ListN.{length, take, drop}
+use lib.ListN.{take, drop}
 use mathlib.Core.Bool.{true≢false}
-use mathlib.Core.Path.{_≡_, refl, sym, ap, ap₂, _∙_}
+use mathlib.Core.Path.{_≡_, refl, sym, _∙_}
 use native.Mathlib.Omega.{arith}
 use borrow.Author.Tests.{not-false}
 use Rattle.same_records.proofs.same_run.Statement.{statement}
 use Rattle.same_records.proofs.same_run.Tie as tie
-use Rattle.same_records.proofs.same_run.Reads as reads
-use Rattle.same_records.proofs.same_run.Lts as lts
-use Rattle.alike.proofs.same_part.Reads as same-part-reads
-use Rattle.same_records.proofs.part_length.Reads as part-length-reads
 
 abbrev Inv-loop : tie.InvT-loop
 Inv-loop a at b to n i₀ i = (i ≤ n) × (take i (drop at a) ≡ take i (drop to b))
@@ -19,57 +15,47 @@ Inv-loop a at b to n i₀ i = (i ≤ n) × (take i (drop at a) ≡ take i (drop 
 abbrev μ-loop : tie.MeasureT-loop
 μ-loop a at b to n i₀ i = n - i
 
--- src/lib.rt:104:5
 loop-holds : tie.Need-loop-holds Inv-loop μ-loop
 loop-holds c = (omega arith, refl)
 
--- src/lib.rt:105:31
 sub-part-length : tie.Need-sub-part-length Inv-loop μ-loop
 sub-part-length c = omega (arith, c .loop-test .taken)
 
--- src/lib.rt:105:13
 part-length-requires : tie.Need-part-length-requires Inv-loop μ-loop
 part-length-requires c κs = tt
 
--- src/lib.rt:106:33
 add-same-part : tie.Need-add-same-part Inv-loop μ-loop
 add-same-part c =
     let w = c .before in
     let start = w .before .before .before .before in
     omega (arith, w .loop-test .taken, start .pre .0, start .pre .1, start .good)
 
--- src/lib.rt:106:49
 add-same-part-2 : tie.Need-add-same-part-2 Inv-loop μ-loop
 add-same-part-2 c =
     let w = c .before in
     let start = w .before .before .before .before in
     omega (arith, w .loop-test .taken, start .pre .0, start .pre .1, start .good)
 
--- src/lib.rt:106:13
 same-part-requires : tie.Need-same-part-requires Inv-loop μ-loop
 same-part-requires c κs =
     let w = c .before in
     let start = w .before .before .before .before in
     (omega (arith, w .loop-test .taken, start .pre .0, c .part-length .ensures .0), omega (arith, w .loop-test .taken, start .pre .1, c .part-length .ensures .0))
 
--- src/lib.rt:107:13
 returns : tie.Need-returns Inv-loop μ-loop
 returns c = λ e. absurd (true≢false (sym e))
 
--- src/lib.rt:109:9
 add-i : tie.Need-add-i Inv-loop μ-loop
 add-i c =
     let len = c .before .before in
     omega (arith, len .part-length .ensures .0, len .before .loop-test .taken, len .before .before .before .before .before .fits .n)
 
--- src/lib.rt:104:5
 loop-less : tie.Need-loop-less Inv-loop μ-loop
 loop-less c =
     let len = c .before .before in
     let w = len .before in
     omega (arith, len .part-length .ensures .1 (omega (arith, w .loop-test .taken)), len .part-length .ensures .0, w .loop-test .taken)
 
--- src/lib.rt:104:5
 loop-again : tie.Need-loop-again Inv-loop μ-loop
 loop-again c =
     let same = c .before in
@@ -80,7 +66,6 @@ loop-again c =
     let e = same-equal (take (len .part-length .result) (drop (a .at + l .i) (a .a .now))) (take (len .part-length .result) (drop (a .to + l .i) (a .b .now))) (sym (same .same-part .ensures) ∙ not-false _ (c .if1 .left)) in
     (omega (arith, len .part-length .ensures .0, w .loop-test .taken), part-on (a .a .now) (a .b .now) (a .at) (a .to) (l .i) (len .part-length .result) (l .inv .1) e)
 
--- src/lib.rt:99:1
 returns-2 : tie.Need-returns-2 Inv-loop μ-loop
 returns-2 c =
     let l = c .before .loop in

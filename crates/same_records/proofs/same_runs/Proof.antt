@@ -3,19 +3,12 @@ use Rattle.same_records.proofs.Runs.{runs-same}
 use Rattle.reading.specs.declared.Data.the-variants.{Run}
 use Rattle.reading.specs.Steps.{DataIs, theGroup}
 use Rattle.reading.proofs.Promise.{known-bytes, group-well-formed}
-use Prim.Native.Nat.{ℕ}
-use mathlib.Core.Path.{_≡_, sym, ap, _∙_}
+use mathlib.Core.Path.{sym, ap, _∙_}
 use native.Mathlib.Omega.{arith}
 use lib.ListN.{take, drop}
 use borrow.Author.Needs.{needs}
 use Rattle.same_records.proofs.same_runs.Statement.{statement}
 use Rattle.same_records.proofs.same_runs.Tie as tie
-use Rattle.same_records.proofs.same_runs.Reads as reads
-use Rattle.same_records.proofs.same_runs.Lts as lts
-use Rattle.reading.proofs.Group.count.Reads as count-reads
-use Rattle.reading.proofs.Group.data.Reads as data-reads
-use Rattle.reading.proofs.Group.size.Reads as size-reads
-use Rattle.same_records.proofs.same_run.Reads as same-run-reads
 
 -- ---- both are sorted: the runs
 
@@ -37,73 +30,56 @@ runs w =
 abbrev told : tie.Else3 → tie.After-known-told2
 told c = c .before .before .before .before .before .before .before
 
--- src/lib.rt:119:28
 data-requires : tie.Need-data-requires
 data-requires c κs = search needs
 
--- src/lib.rt:119:19
 enum-known-at : tie.Need-enum-known-at
 enum-known-at c = search needs
 
--- src/lib.rt:120:9
 enum-told : tie.Need-enum-told
 enum-told c = search needs
 
--- src/lib.rt:120:9
 returns : tie.Need-returns
 returns c = no-same
 
--- src/lib.rt:122:28
 data-requires-2 : tie.Need-data-requires-2
 data-requires-2 c κs = search needs
 
--- src/lib.rt:122:19
 enum-known-to : tie.Need-enum-known-to
 enum-known-to c = search needs
 
--- src/lib.rt:123:9
 enum-told-2 : tie.Need-enum-told-2
 enum-told-2 c = search needs
 
--- src/lib.rt:123:9
 returns-2 : tie.Need-returns-2
 returns-2 c = no-same
 
--- src/lib.rt:126:9
 returns-3 : tie.Need-returns-3
 returns-3 c = no-same
 
--- src/lib.rt:128:8
 size-requires : tie.Need-size-requires
 size-requires c κs = search needs
 
--- src/lib.rt:128:21
 size-requires-2 : tie.Need-size-requires-2
 size-requires-2 c κs = search needs
 
--- src/lib.rt:129:9
 returns-4 : tie.Need-returns-4
 returns-4 c = no-same
 
--- src/lib.rt:131:8
 count-requires : tie.Need-count-requires
 count-requires c κs = search needs
 
--- src/lib.rt:131:22
 count-requires-2 : tie.Need-count-requires-2
 count-requires-2 c κs = search needs
 
--- src/lib.rt:132:9
 returns-5 : tie.Need-returns-5
 returns-5 c = no-same
 
--- src/lib.rt:134:5
 same-run-requires : tie.Need-same-run-requires
 same-run-requires c κs =
     let w = told c in
     (runs w .0 .2, omega (arith, runs w .1 .2, c .before .before .before .before .before .before .if1 .left))
 
--- src/lib.rt:115:1
 returns-6 : tie.Need-returns-6
 returns-6 c =
     let if3 = c .before in
