@@ -76,7 +76,9 @@ pub fn all() -> Vec<Pair> {
     record_bytes(&mut book);
     record_lists(&mut book);
     record_sizes(&mut book);
+    record_sizes_alone(&mut book);
     many_at_once(&mut book);
+    no_groups(&mut book);
     refusals(&mut book);
     book.pairs
 }
@@ -442,6 +444,10 @@ fn record_sizes(book: &mut Book) {
         (5, 0, 5, 0),
     ];
     book.changed("shorter records", shorter, &list);
+}
+
+/// Another record size, and nothing else that differs.
+fn record_sizes_alone(book: &mut Book) {
     // What stands behind the shorter one is as the longer one goes on.
     let alike = |size: usize| {
         let records = vec![vec![7; size]; 6];
@@ -502,6 +508,10 @@ fn many_at_once(book: &mut Book) {
         (2, 4, 0, 0),
     ];
     book.changed("many at once", change, &list);
+}
+
+/// A file without groups.
+fn no_groups(book: &mut Book) {
     let change = |c: &mut Content| {
         c.identification[8] ^= 1;
         c.program = None;
