@@ -1,20 +1,21 @@
 -- The identification block.
 -- Assumes nothing.
 use Prim.Native.Nat.{ℕ, _+_, _≤_, _<_}
-use mathlib.Core.Path.{_≡_, refl, sym, _∙_}
+use mathlib.Core.Path.{_≡_, refl, sym, _∙_, ap}
 use mathlib.Core.Bool.{Bool, true, false, cond}
 use mathlib.Core.List.{List, _∷_}
 use native.Mathlib.Omega.{arith}
 use native.Mathlib.Numerals.{add-one}
-use lib.ListN.{length, take, drop, getD, drop-of-length-le}
+use lib.ListN.{length, take, drop, getD, drop-of-length-le, length-take}
 use lib.Seq.{drop-cons, length-take-le}
 use borrow.Author.Tests.{le-leb, lt-leb, eq-eqb, ne-eqb}
-use Rattle.spec.specs.Bytes.{sameBytes}
-use Rattle.spec.specs.Block.{finalized}
+use Rattle.spec.specs.Bytes.{sameBytes, number, field}
+use Rattle.spec.specs.Block.{finalized, imageOf}
+use Rattle.spec.proofs.Places.{field-in}
 use Rattle.image.specs.declared.Span.{Span}
 use Rattle.image.specs.declared.Block.the-variants.{Open, Shut}
-use Rattle.image.specs.Spans.{blockIn, Inside, identBlock}
-use Rattle.image.proofs.Fields.{part-next}
+use Rattle.image.specs.Spans.{numberAt, blockIn, Inside, identBlock}
+use Rattle.image.proofs.Fields.{part-next, drop-take}
 
 -- ---- the identifier
 
@@ -74,3 +75,18 @@ module _ (b : List ℕ) where
             let i : s ≡ record { at = 0; size = 64 } = cc in
             record { named = f; inside = rw i (omega arith); bytes = rw i refl }
         go false f = let e' = e ∙ ident-is false f in let z : _≡_ {A = ℕ} 0 1 = cc in absurd (omega arith)
+
+-- ---- its version
+
+module _ (b : List ℕ) where
+  pub version-short : length b < 30 → 0 ≡ imageOf b .version
+  unfolding field
+  version-short h =
+      let l : length (take 64 b) < 30 = rw length-take (omega arith) in
+      rw (lt-leb 30 (length (take 64 b)) l)
+
+  pub version-long : 30 ≤ length b → numberAt b 28 2 ≡ imageOf b .version
+  unfolding numberAt
+  version-long h =
+      let l : 28 + 2 ≤ length (take 64 b) = rw length-take (omega arith) in
+      sym (ap number (field-in 2 28 (take 64 b) l ∙ drop-take 28 2 64 b (omega arith)))

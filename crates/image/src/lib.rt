@@ -44,6 +44,16 @@ pub fn number(image: &[u8], at: usize, n: usize) -> u64
     v
 }
 
+// The version that ID gives; 0 where the image ends before it.
+pub fn version(image: &[u8]) -> usize
+    ensures { λ r. ⌜ r ≡ imageOf (now (image .entry)) .version ⌝ }
+{
+    if image.len() < 30 {
+        return 0;
+    }
+    number(image, 28, 2) as usize
+}
+
 // ---- blocks
 
 // Where an opened block stands, and its size.

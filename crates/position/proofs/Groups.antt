@@ -24,7 +24,7 @@ module _ (image : Image) where
     pub group : FoundGroup
     pub more : List FoundGroup
     pub is : gs ≡ group ∷ more
-    pub block : group .block ≡ openedAs readCg (image .bytes) b
+    pub block : group .block ≡ openedAs (readCg (image .version)) (image .bytes) b
     pub allowed : idAllowed mode used (u16 16 (blockIn (image .bytes) b)) ≡ true
     pub commentField : ℕ
     pub comment : bodyAt TX image commentField (toLink (u32 12 (blockIn (image .bytes) b))) ≡ accepted (group .comment)
@@ -47,18 +47,18 @@ module _ (image : Image) where
     unfolding groupList readCg
     list-gives left cl b s =
         bind _ (anything _) λ _ _.
-        gives-step _ (open-open CG readCg image field l b s)
+        gives-step _ (open-open CG (readCg (image .version)) image field l b s)
         (bind _ (anything _) λ _ _.
         bind _ (test _ _ _) λ _ t.
         bind _ (self _) λ comment e₁.
         bind _ (anything _) λ _ _.
         bind _ (self _) λ channels e₂.
         bind _ (self _) λ more e₃.
-        gives _ (record { group = record { block = openedAs readCg (image .bytes) b; comment = comment; channels = channels }; more = more; is = refl; block = refl; allowed = t; commentField = l + 12; comment = e₁; channelsLeft = cl; channelsField = l + 8; channels = e₂; left = left; less = omega arith; channelsBehind = _; field = l + 4; onwards = e₃ }))
+        gives _ (record { group = record { block = openedAs (readCg (image .version)) (image .bytes) b; comment = comment; channels = channels }; more = more; is = refl; block = refl; allowed = t; commentField = l + 12; comment = e₁; channelsLeft = cl; channelsField = l + 8; channels = e₂; left = left; less = omega arith; channelsBehind = _; field = l + 4; onwards = e₃ }))
 
     shut-gives : (left cl : ℕ) → Shut ≡ blockOf l (opening CG image l) → Gives (groupList image (suc left) cl mode used field (some l)) (λ _. ⊥)
     unfolding groupList
-    shut-gives left cl s = bind _ (anything _) λ _ _. record { given = λ gs e. not-both e (stop _ (open-shut CG readCg image field l s)) }
+    shut-gives left cl s = bind _ (anything _) λ _ _. record { given = λ gs e. not-both e (stop _ (open-shut CG (readCg (image .version)) image field l s)) }
 
     pub group-opens : (left cl : ℕ) {gs : List FoundGroup} → groupList image left cl mode used field (toLink l) ≡ accepted gs → Shut ≡ blockOf l (opening CG image l) → ⊥
     unfolding groupList

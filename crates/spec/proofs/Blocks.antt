@@ -4,7 +4,7 @@ use Prim.Native.Nat.{ℕ, _+_, _≤_, _<_}
 use mathlib.Core.Path.{_≡_, refl, sym, _∙_, ap}
 use mathlib.Core.Bool.{Bool, true, false, cond}
 use mathlib.Core.List.{List, [], _∷_, _++_, append-nil}
-use mathlib.Core.Option.{Option}
+use mathlib.Core.Option.{Option, none}
 use native.Mathlib.Omega.{arith}
 use lib.Dec.{ltb}
 use lib.ListN.{length, take, drop, length-append, length-drop, take-append-drop}
@@ -58,11 +58,16 @@ pub record CgFits (cg : CgBlock) : Type 0 where
   pub recordID : cg .recordID < 65536
   pub recordSize : cg .recordSize < 65536
   pub recordCount : cg .recordCount < 4294967296
-  pub reduction : LinkFits (cg .reduction)
+  pub reduction : cg .reduction ≡ none
 
-cg-back : (n : ℕ) (cg : CgBlock) → CgFits cg → readCg (writeCg n cg) ≡ cg
+pub either-way : (t : Bool) (l : Option ℕ) → cond t l l ≡ l
+either-way true l = refl
+either-way false l = refl
+
+cg-back : (version n : ℕ) (cg : CgBlock) → CgFits cg → readCg version (writeCg n cg) ≡ cg
 unfolding readCg writeCg field
-cg-back n cg ok =
+cg-back version n cg ok =
+    let reduction : readCg version (writeCg n cg) .reduction ≡ cg .reduction = rw (ok .reduction) (simp either-way) in
     λ i.
     record {
       next = link-back (cg .next) (ok .next) i;
@@ -71,14 +76,14 @@ cg-back n cg ok =
       recordID = number-2 (cg .recordID) (ok .recordID) i;
       recordSize = number-2 (cg .recordSize) (ok .recordSize) i;
       recordCount = number-4 (cg .recordCount) (ok .recordCount) i;
-      reduction = link-back (cg .reduction) (ok .reduction) i;
+      reduction = reduction i;
     }
 
 pub open-cg : (image : Image) (linkField p n : ℕ) (cg : CgBlock) → CgFits cg → At (image .bytes) p (writeCg n cg)
-    → openAs CG readCg image linkField p ≡ accepted (record { place = p; size = CG-written; content = cg })
+    → openAs CG (readCg (image .version)) image linkField p ≡ accepted (record { place = p; size = CG-written; content = cg })
 unfolding writeCg
 open-cg image linkField p n cg ok a =
-    open-at CG image linkField p 30 _ (omega arith) a readCg cg refl (omega arith) (cg-back n cg ok)
+    open-at CG image linkField p 30 _ (omega arith) a (readCg (image .version)) cg refl (omega arith) (cg-back (image .version) n cg ok)
 
 pub length-cg : (n : ℕ) (cg : CgBlock) → length (writeCg n cg) ≡ CG-written
 unfolding writeCg

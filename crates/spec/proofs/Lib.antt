@@ -16,4 +16,5 @@ pub mod Due
 pub mod EntryFits
 pub mod Examples
 pub mod Facts
+pub mod Since330
 pub mod Signs

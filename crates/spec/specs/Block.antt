@@ -205,8 +205,9 @@ pub record CgBlock : Type 0 where
   pub recordCount : ℕ
   pub reduction : Option ℕ
 
-unfoldable pub readCg : List ℕ → CgBlock
-readCg cg =
+-- below version 330 the sample reduction link is nil, whatever stands there
+unfoldable pub readCg : ℕ → List ℕ → CgBlock
+readCg version cg =
     record {
       next = link 4 cg;
       firstChannel = link 8 cg;
@@ -214,7 +215,7 @@ readCg cg =
       recordID = u16 16 cg;
       recordSize = u16 20 cg;
       recordCount = u32 22 cg;
-      reduction = link 26 cg;
+      reduction = cond (ltb version 330) none (link 26 cg);
     }
 
 -- channels: the number of channels

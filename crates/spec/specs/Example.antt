@@ -254,6 +254,10 @@ oneDataGroup dg more = join (id300 ∷ hdBlock 228 0 0 1 ∷ dg ∷ more ∷ [])
 abbrev pub oneChannelGroup : ℕ → List ℕ → List ℕ → List ℕ
 oneChannelGroup mode cg more = oneDataGroup (dgBlock 0 256 0 514 1 mode) (cg ++ more)
 
+-- an image, its version set to this
+abbrev pub ofVersion : ℕ → List ℕ → List ℕ
+ofVersion version image = idBlock mdf 0 0 version ++ drop 64 image
+
 -- one channel at 286, in a group of record size 2 without records, and more from 514 on
 abbrev pub oneChannel : List ℕ → List ℕ → List ℕ
 oneChannel cn more = oneGroup 2 0 cn more
@@ -349,7 +353,7 @@ checks =
     ∷ checked (oneDataGroup (dgBlock 228 256 0 0 0 1) (cgBlock 286 0 0 1 0 0 0 0 ++ cgBlock 0 0 0 2 0 0 0 0)) 7 236
     ∷ checked (oneDataGroup (dgBlock 1 0 0 4294967295 0 2) []) 5 232
     ∷ checked (oneDataGroup (dgBlock 0 1 0 0 0 2) []) 5 236
-    ∷ checked (oneChannelGroup 0 (cgBlock 1 1 1 256 0 0 1 1) []) 6 282
+    ∷ checked (ofVersion 330 (oneChannelGroup 1 (cgBlock 1 1 1 256 0 0 1 1) [])) 6 282
     ∷ checked (oneChannelGroup 1 (cgBlock 1 1 1 256 0 0 1 0) []) 8 272
     ∷ checked (oneChannelGroup 0 (cgBlock 1 1 1 256 0 0 1 0) []) 5 268
     ∷ checked (oneChannelGroup 0 (cgBlock 1 1 0 256 0 0 1 0) []) 10 276
@@ -480,7 +484,7 @@ edges =
     ∷ checked (oneDataGroup (cut 23 (dgBlock 0 0 0 0 0 0)) (zeros 9)) 5 68
     ∷ checked (oneDataGroup (cut 24 (dgBlock 0 0 0 0 0 0)) []) 0 0
     ∷ checked (oneChannelGroup 0 (cut 25 (cgBlock 0 0 0 0 0 0 0 0)) (zeros 9)) 5 236
-    ∷ checked (oneChannelGroup 0 (cut 26 (cgBlock 0 0 0 0 0 0 0 1)) (1 ∷ 1 ∷ 1 ∷ 1 ∷ [])) 0 0
+    ∷ checked (ofVersion 330 (oneChannelGroup 0 (cut 26 (cgBlock 0 0 0 0 0 0 0 1)) (1 ∷ 1 ∷ 1 ∷ 1 ∷ []))) 0 0
     ∷ checked (oneChannel (cut 217 (signal 0 16 0)) (zeros 20)) 5 264
     ∷ checked (oneChannel (cut 218 (signal 0 16 0)) (counting 1 20)) 0 0
     ∷ checked (oneChannel (cnBlock (links4 514 0 0 0) 0 0 16 0 (zeros 10)) (cut 45 (conversion 0 (zeros 2)) ++ zeros 4)) 5 294
@@ -608,13 +612,27 @@ clauses =
     ∷ checked (oneChannel (cut 227 (cnBlock (zeros 16) 0 0 16 0 (zeros 8 ++ bytesOf 2 1))) (zeros 20)) 0 0
     -- 2.5: the counts are never read, and written right
     ∷ copies uncounted (room 515) (record { given = success 515; memory = oneRecord 1 0 8 0 (65 ∷ []) })
+    -- 2.5: below version 330 the sample reduction link is nil, whatever stands there and whatever the size. CG of 30, 29 and 32 bytes
+    ∷ checked (oneChannelGroup 0 (cgBlock 0 0 0 0 0 0 0 4294967295) []) 0 0
+    ∷ checked (ofVersion 329 (oneChannelGroup 0 (cgBlock 0 0 0 0 0 0 0 1) [])) 0 0
+    ∷ checked (ofVersion 329 (oneChannelGroup 0 (cgBlock 0 0 0 0 0 0 0 4294967295) [])) 0 0
+    ∷ checked (ofVersion 329 (oneChannelGroup 0 (cut 29 (cgBlock 0 0 0 0 0 0 0 4294967295)) (1 ∷ []))) 0 0
+    ∷ checked (ofVersion 329 (oneChannelGroup 0 (longer (cgBlock 0 0 0 0 0 0 0 4294967295) (1 ∷ 1 ∷ [])) [])) 0 0
+    -- 2.5: from version 330 on it counts as soon as the size holds it
+    ∷ checked (ofVersion 330 (oneChannelGroup 0 (cgBlock 0 0 0 0 0 0 0 1) [])) 6 282
+    ∷ checked (ofVersion 330 (oneChannelGroup 0 (cut 29 (cgBlock 0 0 0 0 0 0 0 4294967295)) (1 ∷ []))) 0 0
+    ∷ checked (ofVersion 330 (oneChannelGroup 0 (longer (cgBlock 0 0 0 0 0 0 0 4294967295) (1 ∷ 1 ∷ [])) [])) 6 282
+    ∷ checked (ofVersion 399 (oneChannelGroup 0 (cgBlock 0 0 0 0 0 0 0 4294967295) [])) 6 282
+    -- 2.5, 4.2: such a link is passed over, to the test behind it, and in the copy it is nil
+    ∷ checked (ofVersion 329 (oneChannelGroup 1 (cgBlock 1 1 1 256 0 0 1 1) [])) 8 272
+    ∷ copies (oneChannelGroup 0 (cgBlock 0 0 0 0 0 1 1 4294967295) (zeros 228 ++ (65 ∷ []))) (room 287) (record { given = success 287; memory = join (id300 ∷ hdBlock 228 0 0 1 ∷ dgBlock 0 256 0 286 1 0 ∷ cgBlock 0 0 0 0 0 1 1 0 ∷ (65 ∷ []) ∷ []) })
     -- 3.2, 3.3, 4.1: channels in link order, each with its own comment, long name and display name
     ∷ copies twoChannels (room 760) (record { given = success 760; memory = twoChannelsCopy })
     -- 3.6, 4.2: in mode 0 the record ID counts for nothing, and 0 is written
     ∷ copies (oneChannelGroup 0 (cgBlock 0 0 0 5 0 1 1 0) (zeros 228 ++ (65 ∷ []))) (room 287) (record { given = success 287; memory = join (id300 ∷ hdBlock 228 0 0 1 ∷ dgBlock 0 256 0 286 1 0 ∷ cgBlock 0 0 0 0 0 1 1 0 ∷ (65 ∷ []) ∷ []) })
     -- 5.1, number 6: a trigger, sample reduction or CD link that is not nil, whichever of its bytes is not 0
     ∷ checked (oneDataGroup (dgBlock 0 0 65536 0 0 0) []) 6 240
-    ∷ checked (oneChannelGroup 0 (cgBlock 0 0 0 0 0 0 0 65536) []) 6 282
+    ∷ checked (ofVersion 330 (oneChannelGroup 0 (cgBlock 0 0 0 0 0 0 0 65536) [])) 6 282
     ∷ checked (oneChannel (cnBlock (links4 0 0 65536 0) 0 0 16 0 (zeros 10)) []) 6 302
     -- 5.1, number 8: the ID of any earlier group of the data group, here 7, 8 and 7
     ∷ checked (oneDataGroup (dgBlock 0 256 0 0 3 1) (join (cgBlock 286 0 0 7 0 0 0 0 ∷ cgBlock 316 0 0 8 0 0 0 0 ∷ cgBlock 0 0 0 7 0 0 0 0 ∷ []))) 8 332

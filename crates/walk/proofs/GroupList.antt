@@ -61,7 +61,7 @@ no-groups image (suc left) cl mode used field = refl
 
 module _ (image : Image) (mode : ℕ) (ss : List Slot) (used : List ℕ) (g n : ℕ) (b : Span) where
   abbrev cg : Opened CgBlock
-  cg = openedAs readCg (image .bytes) b
+  cg = openedAs (readCg (image .version)) (image .bytes) b
 
   -- the groups behind it, with so many channels left
   abbrev following : ℕ → Answer (List FoundGroup)
@@ -87,7 +87,7 @@ module _ (image : Image) (mode : ℕ) (ss : List Slot) (used : List ℕ) (g n : 
     turn-at =
         let one : 1024 - g ≡ suc (1024 - (g + 1)) = omega arith in
         rw (not-nil (b .at) h, one)
-        (ap (summed ss n) (step _ (pass _ _ _ allowed) (step _ (open-open CG readCg image field (b .at) b s) refl))
+        (ap (summed ss n) (step _ (pass _ _ _ allowed) (step _ (open-open CG (readCg (image .version)) image field (b .at) b s) refl))
         ∙ summed-then ss n _ _ _ (λ _. summed-then ss n _ _ _ (λ _. summed-then ss n _ _ _ (λ comment. summed-then ss n _ _ _ (λ _. channels-part comment _))))
         ∙ sym (after-bind _ _ onwards ∙ after-then _ _ _ ∙ ap (after _) (after-then _ _ _ ∙ ap (after _) (after-then _ _ _))))
 
@@ -117,7 +117,7 @@ module _ (image : Image) (mode : ℕ) (ss : List Slot) (used : List ℕ) (field 
         pub groups-shut : Shut ≡ blockOf l (opening CG image l) → groupsFrom image mode ss used field l g n ≡ refused 5 field
         unfolding groupsFrom groupList
         groups-shut e =
-            rw (not-nil l h, one-left) (ap (summed ss n) (step _ (pass _ _ _ allowed) (stop _ (open-shut CG readCg image field l e))))
+            rw (not-nil l h, one-left) (ap (summed ss n) (step _ (pass _ _ _ allowed) (stop _ (open-shut CG (readCg (image .version)) image field l e))))
 
         module _ (b : Span) (s : Stands CG image l b) where
           turn : groupsFrom image mode ss used field l g n ≡ (groupAt image mode (elem (u16 16 (blockIn (image .bytes) b)) used) n b >>= onwards image mode ss used g n b)

@@ -43,7 +43,7 @@ OnlyChannels c (Refused n p) = Unit {0}
 -- one group: how many channels there are with its own, n without
 unfoldable pub groupAt : Image → ℕ → Bool → ℕ → Span → Answer ℕ
 groupAt image mode known n b =
-    after (groupHead image mode known (openedAs readCg (image .bytes) b)) (channelsFrom image (u16 20 (blockIn (image .bytes) b)) (b .at + 8) (u32 8 (blockIn (image .bytes) b)) n)
+    after (groupHead image mode known (openedAs (readCg (image .version)) (image .bytes) b)) (channelsFrom image (u16 20 (blockIn (image .bytes) b)) (b .at + 8) (u32 8 (blockIn (image .bytes) b)) n)
 
 -- past the group in b
 abbrev pub PastGroup : List ℕ → Cursor → Span → Walked → Type 0

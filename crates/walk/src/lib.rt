@@ -270,13 +270,24 @@ fn zero_implies(x: usize, y: usize) -> bool
     y == 0
 }
 
+// The sample reduction link of a group. Below version 330 it is nil, whatever stands there.
+fn reduction(image: &[u8], cg: Span) -> usize
+    requires { ⌜ Holds 26 (now image) cg ⌝ }
+    ensures { λ r. ⌜ toLink r ≡ readCg (imageOf (now (image .entry)) .version) (blockIn (now (image .entry)) cg) .reduction ⌝ }
+{
+    if image::version(image) < 330 {
+        return 0;
+    }
+    image::u32_in(image, cg, 26)
+}
+
 // The tests of a group before its channels.
 fn group_head(image: &[u8], cg: Span, mode: usize, known: bool) -> Step
     requires { ⌜ Holds 26 (now image) cg ⌝ }
-    ensures { λ r. ⌜ r ≡ groupHead (imageOf (now (image .entry))) mode known (openedAs readCg (now (image .entry)) cg) ⌝ }
+    ensures { λ r. ⌜ r ≡ groupHead (imageOf (now (image .entry))) mode known (openedAs (readCg (imageOf (now (image .entry)) .version)) (now (image .entry)) cg) ⌝ }
 {
     let at = cg.at;
-    if image::u32_in(image, cg, 26) != 0 {
+    if reduction(image, cg) != 0 {
         return Step::Stop(6, at + 26);
     }
     if !id_passes(mode, image::u16_in(image, cg, 16), known) {
