@@ -119,7 +119,13 @@ fn put_data_group(
 }
 
 fn put_group(sheet: &mut Sheet, rng: &mut Rng, field: usize, id: u16, group: &Group) -> usize {
-    let cg = sheet.linked(field, b"CG", rng.pick(&[26, 30, 30, 33]));
+    let size = rng.pick(&[26, 29, 30, 30, 33]);
+    let cg = sheet.linked(field, b"CG", size);
+    // A link that is not held whole says nothing, nor does it below version 330.
+    if size < 30 || sheet.version() < 330 {
+        let rubbish = rng.bytes(size - 26);
+        sheet.put(cg + 26, &rubbish);
+    }
     sheet.put16(cg + 16, id);
     sheet.put16(cg + 20, group.record_size);
     sheet.put32(cg + 22, group.records.len() as u32);

@@ -231,7 +231,7 @@ fn change_identification(rng: &mut Rng, bytes: &mut [u8]) {
             write(bytes, place, value, 1);
         }
         _ => {
-            let version = rng.pick(&[0, 299, 300, 319, 320, 399, 400, 410, 65535]);
+            let version = rng.pick(&[0, 299, 300, 319, 320, 329, 330, 399, 400, 410, 65535]);
             write(bytes, 28, version, 2);
         }
     }

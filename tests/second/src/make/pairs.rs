@@ -184,7 +184,8 @@ fn headers(book: &mut Book) {
     book.changed("header bytes 164 on", |c| c.header[146..].fill(0), &[(1, 0, 1, 0)]);
 }
 
-/// Bytes 164 to 207 say something from version 320 on.
+/// Header bytes 164 to 207 say something from version 320 on. Below version
+/// 330 the two files have different bytes for sample reduction links.
 fn versions(book: &mut Book) {
     let of = |version: u16, later: u8| {
         let mut content = base();
@@ -203,6 +204,9 @@ fn versions(book: &mut Book) {
         (of(320, 0), of(321, 0), &both[..1]),
         (of(320, 1), of(399, 2), &both),
         (of(320, 1), of(320, 2), &both[1..]),
+        (of(300, 0), of(300, 0), &[]),
+        (of(329, 1), of(329, 1), &[]),
+        (of(329, 1), of(330, 1), &both[..1]),
     ] {
         let (a, b) = (one.version(), other.version());
         let later = (one.header[146], other.header[146]);

@@ -31,6 +31,10 @@ impl Sheet {
         sheet
     }
 
+    pub fn version(&self) -> u16 {
+        u16::from_le_bytes([self.bytes[28], self.bytes[29]])
+    }
+
     pub fn len(&self) -> usize {
         self.bytes.len()
     }

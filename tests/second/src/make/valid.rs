@@ -133,6 +133,7 @@ struct SharedData {
 /// The blocks of a file, before they have places.
 #[derive(Default)]
 pub struct Plan {
+    version: usize,
     nodes: Vec<Node>,
     /// Blocks that still have room for a block inside: number, offset, room.
     hosts: Vec<(usize, usize, usize)>,
@@ -287,7 +288,10 @@ impl Plan {
         set16(bytes, 16, usize::from(shape.id));
         set16(bytes, 20, usize::from(shape.size));
         set32(bytes, 22, shape.count);
-        self.link(node, 26, None);
+        // Below version 330 what stands there says nothing, and is mostly rubbish.
+        if self.version >= 330 || rng.chance(20) {
+            self.link(node, 26, None);
+        }
         self.link(node, 4, next);
         let comment = self.body(rng, b"TX", 30);
         self.link(node, 12, comment);
@@ -427,12 +431,12 @@ fn record_data(rng: &mut Rng, mode: u16, shapes: &[GroupShape]) -> Vec<u8> {
 
 /// Identification block and header, as numbers 0 and 1 of the plan.
 fn start_plan(rng: &mut Rng) -> Plan {
-    let mut plan = Plan::default();
+    let any = rng.between(300, 399);
+    let version = rng.pick(&[300, 301, 310, 319, 320, 321, 329, 330, 331, 399, any]);
+    let mut plan = Plan { version, ..Plan::default() };
     let mut id = rng.bytes(64);
     id[..8].copy_from_slice(b"MDF     ");
     set32(&mut id, 24, 0);
-    let any = rng.between(300, 399);
-    let version = rng.pick(&[300, 301, 310, 319, 320, 321, 330, 331, 399, any]);
     set16(&mut id, 28, version);
     plan.add(ID, id);
     plan.hosts.push((0, 30, 34));

@@ -13,7 +13,7 @@ pub fn content(rng: &mut Rng) -> Content {
     }
     let mut content =
         Content { identification, header, comment: None, program: None, groups: Vec::new() };
-    content.set_version(rng.pick(&[300, 319, 320, 330, 331]));
+    content.set_version(rng.pick(&[300, 319, 320, 329, 330, 331]));
     content.comment = body(rng, 0);
     content.program = body(rng, 0);
     for _ in 0..rng.pick(&[0, 1, 1, 2, 2, 3, 5]) {
@@ -88,7 +88,7 @@ fn flip(rng: &mut Rng, bytes: &mut [u8]) {
 pub fn change(rng: &mut Rng, content: &mut Content) {
     match rng.below(100) {
         0..=4 => flip(rng, &mut content.identification[30..]),
-        5..=7 => content.set_version(rng.pick(&[300, 310, 319, 320, 330, 399])),
+        5..=7 => content.set_version(rng.pick(&[300, 310, 319, 320, 329, 330, 399])),
         8..=14 => flip(rng, &mut content.header),
         15..=18 => content.comment = changed(rng, &content.comment),
         19..=22 => content.program = changed(rng, &content.program),

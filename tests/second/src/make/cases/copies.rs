@@ -221,14 +221,17 @@ const SIZES: [(usize, usize, usize); 6] = [
 ];
 
 /// Blocks with more or fewer bytes than their known fields, and all bytes
-/// set that are no part of a field held whole.
+/// set that are no part of a field held whole; nor is the sample reduction
+/// link one below version 330.
 fn larger_blocks(book: &mut Book) {
-    for (dg_size, cg_size, cn_size) in SIZES {
-        let mut image = Sheet::new(310, 164);
+    for (dg_size, cg_size, cn_size, version) in
+        SIZES.into_iter().flat_map(|(dg, cg, cn)| [310, 329, 330].map(|v| (dg, cg, cn, v)))
+    {
+        let mut image = Sheet::new(version, 164);
         let dg = image.linked(68, b"DG", dg_size);
         let cg = image.linked(dg + 8, b"CG", cg_size);
         let cn = image.linked(cg + 8, b"CN", cn_size);
-        let cg_known = if cg_size < 30 { 26 } else { 30 };
+        let cg_known = if cg_size < 30 || version < 330 { 26 } else { 30 };
         let cn_known = [218, 222, 226, 228].into_iter().filter(|&k| k <= cn_size).max();
         let known = [(dg, 24), (cg, cg_known), (cn, cn_known.unwrap_or(218))];
         for ((place, known), size) in known.into_iter().zip([dg_size, cg_size, cn_size]) {
@@ -239,11 +242,13 @@ fn larger_blocks(book: &mut Book) {
         image.put32(cg + 22, 1);
         let data = image.append(&[5, 6, 7]);
         image.put32(dg + 16, data as u32);
-        let mut copy = Laid::new(310);
+        let mut copy = Laid::new(version);
         copy.group(2);
         copy.channel(1);
         copy.records(1, &[5, 6]);
-        let name = format!("blocks of {dg_size}, {cg_size} and {cn_size} bytes, copied");
+        let name = format!(
+            "version {version}, blocks of {dg_size}, {cg_size} and {cn_size} bytes, copied"
+        );
         book.copied(name, &image.bytes, &copy.sheet.bytes);
     }
 }

@@ -13,7 +13,7 @@ pub fn cases(book: &mut Book) {
     channel_fields(book, &file);
     positions(book);
     record_sizes(book);
-    short_groups(book);
+    reductions(book);
     short_channels(book);
     idle_fields(book, &file);
 }
@@ -229,29 +229,25 @@ fn record_sizes(book: &mut Book) {
     book.expect("record size 0 in the second group", &second.sheet.bytes, 10, second.cg[1] + 20);
 }
 
-/// Groups too short for the sample reduction link.
-fn short_groups(book: &mut Book) {
-    for size in [26, 27, 28, 29, 30, 31, 60] {
-        let mut sheet = Sheet::new(330, 208);
-        let dg = sheet.linked(68, b"DG", 24);
-        let cg = sheet.linked(dg + 8, b"CG", size);
-        sheet.append(&[0; 8]);
-        sheet.put(cg + 26, &[0xFF; 4]);
-        let name = format!("group of {size} bytes before a set reduction link");
-        if size < 30 {
-            book.accept(name, &sheet.bytes);
-        } else {
-            book.expect(name, &sheet.bytes, 6, cg + 26);
+/// Sample reduction links: they count from version 330 on, in groups that
+/// hold them whole.
+fn reductions(book: &mut Book) {
+    for version in [300, 319, 320, 329, 330, 331, 399] {
+        for size in [26, 27, 28, 29, 30, 31, 60] {
+            for link in [1, 64, 0x0001_0000, 0x8000_0000, 0xFFFF_FFFF] {
+                let mut sheet = Sheet::new(version, 208);
+                let dg = sheet.linked(68, b"DG", 24);
+                let cg = sheet.linked(dg + 8, b"CG", size);
+                sheet.append(&[0; 8]);
+                sheet.put32(cg + 26, link);
+                let name = format!("version {version}, group of {size} bytes, {link:#x} at 26");
+                if version < 330 || size < 30 {
+                    book.accept(name, &sheet.bytes);
+                } else {
+                    book.expect(name, &sheet.bytes, 6, cg + 26);
+                }
+            }
         }
-    }
-    // The version makes no difference to that link.
-    for version in [300, 329, 330, 399] {
-        let mut sheet = Sheet::new(version, 208);
-        let dg = sheet.linked(68, b"DG", 24);
-        let cg = sheet.linked(dg + 8, b"CG", 30);
-        sheet.put32(cg + 26, 64);
-        let name = format!("reduction link in version {version}");
-        book.expect(name, &sheet.bytes, 6, cg + 26);
     }
 }
 

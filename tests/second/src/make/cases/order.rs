@@ -60,6 +60,23 @@ pub fn cases(book: &mut Book) {
         }
     }
     from_each_on(book, &file, &faults);
+    below_330(book);
+}
+
+/// Below version 330 sample reduction links are no fault, and every other
+/// one is told as without them.
+fn below_330(book: &mut Book) {
+    let mut file = full(true);
+    file.sheet.put16(28, 329);
+    for cg in file.cg {
+        file.sheet.put32(cg + 26, FAR);
+    }
+    book.accept("version 329 with sample reduction links", &file.sheet.bytes);
+    let others = listed(&file).into_iter().filter(|f| !f.name.starts_with("sample reduction"));
+    for fault in others {
+        let name = format!("version 329 with sample reduction links: {}", fault.name);
+        book.expect(name, &with(&file, &[&fault]), fault.number, fault.place);
+    }
 }
 
 /// Every fault together with as many later ones as fit.

@@ -69,7 +69,7 @@ fn flags_and_version(book: &mut Book) {
             book.expect(format!("{label} {value}"), &sheet.bytes, 4, place);
         }
     }
-    for version in [300, 301, 310, 319, 320, 330, 331, 398, 399] {
+    for version in [300, 301, 310, 319, 320, 329, 330, 331, 398, 399] {
         let sheet = Sheet::new(version, 208);
         book.accept(format!("version {version}"), &sheet.bytes);
     }
