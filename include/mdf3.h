@@ -39,9 +39,9 @@
 #include <stdint.h>
 #include <string.h>
 
-#define MDF3_VERSION "1.2.0"
+#define MDF3_VERSION "1.3.0"
 /* The same for #if: 10,000 for each major, 100 for each minor number. */
-#define MDF3_VERSION_NUMBER 10200
+#define MDF3_VERSION_NUMBER 10300
 
 #ifdef __cplusplus
 extern "C" {
@@ -71,9 +71,9 @@ extern "C" {
  * identifier is another, the size is too small for the kind, or the block runs
  * past the end. The place of the link field; 64 for the header block. */
 #define MDF3_LINK 5
-/* Something that is not supported. A trigger, a sample reduction or a channel
- * dependency: the place of that link field. A conversion of formula 12: the
- * place of its formula field. */
+/* Something that is not supported. A trigger, a channel dependency, or from
+ * version 330 on a sample reduction: the place of that link field. A conversion
+ * of formula 12: the place of its formula field. */
 #define MDF3_UNSUPPORTED 6
 /* More than 1,024 data groups, 1,024 channel groups or 16,384 channels in the
  * file: the place of the link field that leads to the first one too many.

@@ -23,7 +23,8 @@ const char *in_words(uint32_t number, uint64_t place)
         "not finalized by its logger",
         "",
         "the link at this place leads to no block of its kind",
-        "a trigger, sample reduction, channel dependency or text range conversion at this place: not supported",
+        "a trigger, channel dependency, text range conversion or, from version 3.30 on, sample reduction at this place: "
+        "not supported",
         "the link at this place leads to one data group, channel group or channel too many",
         "wrong record IDs: the number of ID bytes, a second group without IDs, or an ID at this place",
         "a channel with a type, bits or data type that cannot be, at this place",
