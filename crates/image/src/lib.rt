@@ -44,7 +44,7 @@ pub fn number(image: &[u8], at: usize, n: usize) -> u64
     v
 }
 
-// The version that ID gives; 0 where the image ends before it.
+// The version that ID gives; 0 where the image does not hold it whole.
 pub fn version(image: &[u8]) -> usize
     ensures { λ r. ⌜ r ≡ imageOf (now (image .entry)) .version ⌝ }
 {

@@ -60,14 +60,14 @@ pub record CgFits (cg : CgBlock) : Type 0 where
   pub recordCount : cg .recordCount < 4294967296
   pub reduction : cg .reduction ≡ none
 
-pub either-way : (t : Bool) (l : Option ℕ) → cond t l l ≡ l
-either-way true l = refl
-either-way false l = refl
+pub cond-same : (t : Bool) (l : Option ℕ) → cond t l l ≡ l
+cond-same true l = refl
+cond-same false l = refl
 
 cg-back : (version n : ℕ) (cg : CgBlock) → CgFits cg → readCg version (writeCg n cg) ≡ cg
 unfolding readCg writeCg field
 cg-back version n cg ok =
-    let reduction : readCg version (writeCg n cg) .reduction ≡ cg .reduction = rw (ok .reduction) (simp either-way) in
+    let reduction : readCg version (writeCg n cg) .reduction ≡ cg .reduction = rw (ok .reduction) (simp cond-same) in
     λ i.
     record {
       next = link-back (cg .next) (ok .next) i;

@@ -9,62 +9,67 @@ use mathlib.Core.Option.{Option, none, some}
 use native.Mathlib.Omega.{arith}
 use lib.Dec.{ltb}
 use lib.ListN.{length}
-use borrow.Author.Tests.{ltb-true}
+use borrow.Author.Tests.{ltb-true, lt-ltb}
 use Rattle.spec.specs.Bytes.{isNil, field, link}
-use Rattle.spec.specs.Answer.{Answer, refused, accepted, _>>=_, require, mapAnswer}
+use Rattle.spec.specs.Answer.{Answer, refused, accepted, _>>=_, require, mapAnswer, atPlace}
 use Rattle.spec.specs.Block.{Kind, CG, TX, Image, imageOf, opening, openBlock, Opened, openAs, bodyAt, readHd, readDg, CgBlock, readCg, CnBlock}
 use Rattle.spec.specs.Reading.{Reading}
 use Rattle.spec.specs.Records.{inOrder, logFrom, logOf}
 use Rattle.spec.specs.Found.{FoundFile, readingOf}
 use Rattle.spec.specs.Walk.{conversionAt, channelAt, channelList, groupList, channelCount, dataGroupList, fileFrom, identPasses, walk, reads}
 use Rattle.spec.specs.Call.{checkOutcome, copying, copyOutcome}
-use Rattle.spec.specs.Since330.{everyVersion, walkBefore, readsBefore, copyingBefore, CountedInEveryVersion, DiffersBelow330Alone, AsBeforeFrom330, AcceptedBeforeIsAccepted, CopyIsAsBefore, MoreIsAccepted}
-use Rattle.spec.proofs.Blocks.{either-way}
+use Rattle.spec.specs.Since330.{asVersion330, walkBefore, readsBefore, copyingBefore, NilBelow330, CountedInEveryVersion, ReductionRefused, DiffersBelow330Alone, AsBeforeFrom330, AcceptedBeforeIsAccepted, CopyIsAsBefore, MoreIsAccepted}
+use Rattle.spec.proofs.Blocks.{cond-same}
 use Rattle.spec.proofs.Answers.{stop, fail}
+
+-- ---- one CG
+
+pub nil-below-330 : NilBelow330
+unfolding readCg
+nil-below-330 version block h = rw (lt-ltb version 330 h)
 
 pub counted-in-every-version : CountedInEveryVersion
 unfolding readCg
 counted-in-every-version image block = refl
 
--- ---- two answers, the later one first
-
--- they are the same, or the earlier one is 6 and the version below 330
-abbrev Agrees : {A : Type 0} → ℕ → Answer A → Answer A → Type 0
-Agrees version now before = (now ≡ before) ⊎ ((p : ℕ) × (version < 330) × (before ≡ refused 6 p))
-
--- where one step agrees, and what follows it does
-agrees-then : {A B : Type 0} {version : ℕ} {m m′ : Answer A} {f f′ : A → Answer B}
-    → Agrees version m m′
-    → ((a : A) → Agrees version (f a) (f′ a))
-    → Agrees version (m >>= f) (m′ >>= f′)
-unfolding _>>=_
-agrees-then {version} {m} {m′} {f} {f′} h k = ⊎-elim (λ e. rw e (go m′)) (λ s. inr (s .0, s .1, stop f′ (s .2))) h
-  where
-    go : (m : Answer _) → Agrees version (m >>= f) (m >>= f′)
-    go (refused n p) = inl refl
-    go (accepted a) = k a
-
--- ---- the link
-
 nil-none : (l : Option ℕ) → isNil l ≡ true → l ≡ none
 nil-none none e = refl
 nil-none (some p) e = absurd (true≢false (sym e))
 
--- a CG in which it is nil reads as before
+-- one whose link is nil is read as before
 same-nil : (version : ℕ) (block : List ℕ) → isNil (link 26 block) ≡ true → readCg version block ≡ readCg 330 block
 unfolding readCg
-same-nil version block e = rw (nil-none (link 26 block) e) (simp either-way)
+same-nil version block e = rw (nil-none (link 26 block) e) (simp cond-same)
 
--- and so does every CG from version 330 on
+-- and so is every one from version 330 on
 same-from-330 : (version : ℕ) (block : List ℕ) → ltb version 330 ≡ false → readCg version block ≡ readCg 330 block
 unfolding readCg
 same-from-330 version block e = rw e
+
+-- ---- two answers, the later one first
+
+-- they are the same, or the earlier one is 6 at the link, and the version below 330
+abbrev Agrees : {A : Type 0} → Image → Answer A → Answer A → Type 0
+Agrees image now before = (now ≡ before) ⊎ ((image .version < 330) × ReductionRefused image before)
+
+-- where one step agrees, and what follows it does
+agrees-then : {A B : Type 0} {image : Image} {m m′ : Answer A} {f f′ : A → Answer B}
+    → Agrees image m m′
+    → ((a : A) → Agrees image (f a) (f′ a))
+    → Agrees image (m >>= f) (m′ >>= f′)
+unfolding _>>=_
+agrees-then {image} {m} {m′} {f} {f′} h k =
+    ⊎-elim (λ e. rw e (go m′)) (λ s. inr (s .0, record { place = s .1 .place; block = s .1 .block; opens = s .1 .opens; counts = s .1 .counts; refusal = stop f′ (s .1 .refusal) })) h
+  where
+    go : (m : Answer _) → Agrees image (m >>= f) (m >>= f′)
+    go (refused n p) = inl refl
+    go (accepted a) = k a
 
 -- ---- the walk
 
 module _ (image : Image) where
   abbrev before : Image
-  before = everyVersion image
+  before = asVersion330 image
 
   body-same : (k : Kind) (linkField : ℕ) (l : Option ℕ) → bodyAt k image linkField l ≡ bodyAt k before linkField l
   unfolding bodyAt openBlock opening
@@ -83,7 +88,7 @@ module _ (image : Image) where
   channels-same (suc left) size linkField (some p) = simp (channel-same, channels-same left)
 
   -- a CG and the test of its link, then what follows
-  module _ {B : Type 0} (linkField p : ℕ) {f f′ : Opened CgBlock → Answer B} (follows : (cg : Opened CgBlock) → Agrees (image .version) (f cg) (f′ cg)) where
+  module _ {B : Type 0} (linkField p : ℕ) {f f′ : Opened CgBlock → Answer B} (follows : (cg : Opened CgBlock) → Agrees image (f cg) (f′ cg)) where
     abbrev tested : (Opened CgBlock → Answer B) → Opened CgBlock → Answer B
     tested f cg = require (isNil (cg .content .reduction)) 6 (p + 26) >>= λ _. f cg
 
@@ -91,25 +96,28 @@ module _ (image : Image) where
     opened version block = record { place = p; size = length block; content = readCg version block }
 
     link-same : (block : List ℕ) → readCg (image .version) block ≡ readCg 330 block
-        → Agrees (image .version) (tested f (opened (image .version) block)) (tested f′ (opened 330 block))
+        → Agrees image (tested f (opened (image .version) block)) (tested f′ (opened 330 block))
     link-same block e = rw e (agrees-then (inl refl) λ _. follows (opened 330 block))
 
-    link-agrees : (block : List ℕ) (nil below : Bool) → isNil (link 26 block) ≡ nil → ltb (image .version) 330 ≡ below
-        → Agrees (image .version) (tested f (opened (image .version) block)) (tested f′ (opened 330 block))
-    link-agrees block true below n v = link-same block (same-nil (image .version) block n)
-    link-agrees block false false n v = link-same block (same-from-330 (image .version) block v)
-    link-agrees block false true n v = inr (p + 26, ltb-true _ _ v, stop _ (fail _ _ _ (ap isNil (counted-in-every-version image block) ∙ n)))
+    link-agrees : (block : List ℕ) (nil below : Bool) → opening CG image p ≡ accepted block → isNil (link 26 block) ≡ nil → ltb (image .version) 330 ≡ below
+        → Agrees image (tested f (opened (image .version) block)) (tested f′ (opened 330 block))
+    unfolding readCg
+    link-agrees block true below o n v = link-same block (same-nil (image .version) block n)
+    link-agrees block false false o n v = link-same block (same-from-330 (image .version) block v)
+    link-agrees block false true o n v =
+        inr (ltb-true _ _ v, record { place = p; block = block; opens = o; counts = n; refusal = stop _ (fail _ _ _ n) })
 
-    cg-agrees : Agrees (image .version) (openAs CG (readCg (image .version)) image linkField p >>= tested f) (openAs CG (readCg 330) before linkField p >>= tested f′)
+    cg-agrees : Agrees image (openAs CG (readCg (image .version)) image linkField p >>= tested f) (openAs CG (readCg 330) before linkField p >>= tested f′)
     unfolding _>>=_ openBlock opening
-    cg-agrees = go (openBlock CG image linkField p)
+    cg-agrees = go (opening CG image p) refl
       where
-        go : (m : Answer (List ℕ)) → Agrees (image .version) (m >>= (λ block. accepted (opened (image .version) block)) >>= tested f) (m >>= (λ block. accepted (opened 330 block)) >>= tested f′)
-        go (refused n q) = inl refl
-        go (accepted block) = link-agrees block (isNil (link 26 block)) (ltb (image .version) 330) refl refl
+        go : (m : Answer (List ℕ)) → opening CG image p ≡ m
+            → Agrees image (atPlace linkField m >>= (λ block. accepted (opened (image .version) block)) >>= tested f) (atPlace linkField m >>= (λ block. accepted (opened 330 block)) >>= tested f′)
+        go (refused n q) o = inl refl
+        go (accepted block) o = link-agrees block (isNil (link 26 block)) (ltb (image .version) 330) o refl refl
 
   groups-agree : (left channelsLeft mode : ℕ) (used : List ℕ) (linkField : ℕ) (l : Option ℕ)
-      → Agrees (image .version) (groupList image left channelsLeft mode used linkField l) (groupList before left channelsLeft mode used linkField l)
+      → Agrees image (groupList image left channelsLeft mode used linkField l) (groupList before left channelsLeft mode used linkField l)
   unfolding groupList
   groups-agree zero cl mode used linkField none = inl refl
   groups-agree zero cl mode used linkField (some p) = inl refl
@@ -125,7 +133,7 @@ module _ (image : Image) where
       inl refl
 
   data-groups-agree : (left gl cl linkField : ℕ) (l : Option ℕ)
-      → Agrees (image .version) (dataGroupList image left gl cl linkField l) (dataGroupList before left gl cl linkField l)
+      → Agrees image (dataGroupList image left gl cl linkField l) (dataGroupList before left gl cl linkField l)
   unfolding dataGroupList openBlock opening
   data-groups-agree zero gl cl linkField none = inl refl
   data-groups-agree zero gl cl linkField (some p) = inl refl
@@ -152,16 +160,16 @@ differs-below-330-alone a =
     inl refl
 
 pub as-before-from-330 : AsBeforeFrom330
-as-before-from-330 a h = ⊎-elim (λ e. e) (λ s. absurd (omega (arith, s .1))) (differs-below-330-alone a)
+as-before-from-330 a h = ⊎-elim (λ e. e) (λ s. absurd (omega (arith, s .0))) (differs-below-330-alone a)
 
 -- what is refused has no reading
-never : {m : Answer FoundFile} {n p : ℕ} {r : Reading} → m ≡ refused n p → mapAnswer readingOf m ≡ accepted r → ⊥
-never o e = let q = rw o at e in let z : _≡_ {A = ℕ} 0 1 = cc in absurd (omega arith)
+refused-unread : {m : Answer FoundFile} {n p : ℕ} {r : Reading} → m ≡ refused n p → mapAnswer readingOf m ≡ accepted r → ⊥
+refused-unread o e = let q = rw o at e in let z : _≡_ {A = ℕ} 0 1 = cc in absurd (omega arith)
 
 pub accepted-before-is-accepted : AcceptedBeforeIsAccepted
 unfolding readsBefore reads
 accepted-before-is-accepted a r e =
-    ⊎-elim (λ s. ap (mapAnswer readingOf) s ∙ e) (λ s. absurd (never (s .2) e)) (differs-below-330-alone a)
+    ⊎-elim (λ s. ap (mapAnswer readingOf) s ∙ e) (λ s. absurd (refused-unread (s .1 .refusal) e)) (differs-below-330-alone a)
 
 pub copy-is-as-before : CopyIsAsBefore
 unfolding copyOutcome copying copyingBefore

@@ -203,9 +203,9 @@ pub record CgBlock : Type 0 where
   pub recordID : ℕ
   pub recordSize : ℕ
   pub recordCount : ℕ
-  pub reduction : Option ℕ
+  pub reduction : Option ℕ  -- from version 330 on
 
--- below version 330 the sample reduction link is nil, whatever stands there
+-- below version 330 the sample reduction link is nil, whatever stands there and whatever the size
 unfoldable pub readCg : ℕ → List ℕ → CgBlock
 readCg version cg =
     record {

@@ -254,7 +254,7 @@ oneDataGroup dg more = join (id300 ∷ hdBlock 228 0 0 1 ∷ dg ∷ more ∷ [])
 abbrev pub oneChannelGroup : ℕ → List ℕ → List ℕ → List ℕ
 oneChannelGroup mode cg more = oneDataGroup (dgBlock 0 256 0 514 1 mode) (cg ++ more)
 
--- an image, its version set to this
+-- an image, its ID being that of this version
 abbrev pub ofVersion : ℕ → List ℕ → List ℕ
 ofVersion version image = idBlock mdf 0 0 version ++ drop 64 image
 
@@ -598,7 +598,7 @@ unfoldable pub clauses : List Example
 clauses =
     -- 2.3: what a block has beyond its known fields is passed over
     checked (oneDataGroup (longer (dgBlock 0 0 0 0 0 0) (1 ∷ 1 ∷ [])) []) 0 0
-    ∷ checked (oneChannelGroup 0 (longer (cgBlock 0 0 0 0 0 0 0 0) (1 ∷ 1 ∷ [])) []) 0 0
+    ∷ checked (ofVersion 330 (oneChannelGroup 0 (longer (cgBlock 0 0 0 0 0 0 0 0) (1 ∷ 1 ∷ [])) [])) 0 0
     ∷ checked (oneChannel (longer (signal 0 16 0) (1 ∷ 1 ∷ [])) []) 0 0
     ∷ copies (hd320 210 (counting 1 46)) (room 272) (record { given = success 272; memory = hd320 208 (counting 1 44) })
     -- 2.3: a field that the size does not hold whole is taken as zeros. HD 164 and 176

@@ -121,7 +121,7 @@ fn put_data_group(
 fn put_group(sheet: &mut Sheet, rng: &mut Rng, field: usize, id: u16, group: &Group) -> usize {
     let size = rng.pick(&[26, 29, 30, 30, 33]);
     let cg = sheet.linked(field, b"CG", size);
-    // A link that is not held whole says nothing, nor does it below version 330.
+    // A sample reduction link not held whole says nothing, nor does any below version 330.
     if size < 30 || sheet.version() < 330 {
         let rubbish = rng.bytes(size - 26);
         sheet.put(cg + 26, &rubbish);

@@ -185,7 +185,8 @@ fn headers(book: &mut Book) {
 }
 
 /// Header bytes 164 to 207 say something from version 320 on. Below version
-/// 330 the two files have different bytes for sample reduction links.
+/// 330 the two files mostly have different bytes where later ones have
+/// sample reduction links.
 fn versions(book: &mut Book) {
     let of = |version: u16, later: u8| {
         let mut content = base();

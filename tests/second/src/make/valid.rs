@@ -288,7 +288,7 @@ impl Plan {
         set16(bytes, 16, usize::from(shape.id));
         set16(bytes, 20, usize::from(shape.size));
         set32(bytes, 22, shape.count);
-        // Below version 330 what stands there says nothing, and is mostly rubbish.
+        // Below version 330 a sample reduction link says nothing, and is mostly rubbish.
         if self.version >= 330 || rng.chance(20) {
             self.link(node, 26, None);
         }

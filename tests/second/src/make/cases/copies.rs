@@ -221,36 +221,39 @@ const SIZES: [(usize, usize, usize); 6] = [
 ];
 
 /// Blocks with more or fewer bytes than their known fields, and all bytes
-/// set that are no part of a field held whole; nor is the sample reduction
-/// link one below version 330.
+/// set that are no part of a field held whole.
 fn larger_blocks(book: &mut Book) {
-    for (dg_size, cg_size, cn_size, version) in
-        SIZES.into_iter().flat_map(|(dg, cg, cn)| [310, 329, 330].map(|v| (dg, cg, cn, v)))
-    {
-        let mut image = Sheet::new(version, 164);
-        let dg = image.linked(68, b"DG", dg_size);
-        let cg = image.linked(dg + 8, b"CG", cg_size);
-        let cn = image.linked(cg + 8, b"CN", cn_size);
-        let cg_known = if cg_size < 30 || version < 330 { 26 } else { 30 };
-        let cn_known = [218, 222, 226, 228].into_iter().filter(|&k| k <= cn_size).max();
-        let known = [(dg, 24), (cg, cg_known), (cn, cn_known.unwrap_or(218))];
-        for ((place, known), size) in known.into_iter().zip([dg_size, cg_size, cn_size]) {
-            image.put(place + known, &vec![0xEE; size - known]);
+    for version in [310, 329, 330] {
+        for sizes in SIZES {
+            blocks_of(book, version, sizes);
         }
-        image.put16(cg + 16, 700);
-        image.put16(cg + 20, 2);
-        image.put32(cg + 22, 1);
-        let data = image.append(&[5, 6, 7]);
-        image.put32(dg + 16, data as u32);
-        let mut copy = Laid::new(version);
-        copy.group(2);
-        copy.channel(1);
-        copy.records(1, &[5, 6]);
-        let name = format!(
-            "version {version}, blocks of {dg_size}, {cg_size} and {cn_size} bytes, copied"
-        );
-        book.copied(name, &image.bytes, &copy.sheet.bytes);
     }
+}
+
+/// One file with blocks of these sizes. Below version 330 the sample
+/// reduction link of a channel group is no field.
+fn blocks_of(book: &mut Book, version: u16, (dg_size, cg_size, cn_size): (usize, usize, usize)) {
+    let mut image = Sheet::new(version, 164);
+    let dg = image.linked(68, b"DG", dg_size);
+    let cg = image.linked(dg + 8, b"CG", cg_size);
+    let cn = image.linked(cg + 8, b"CN", cn_size);
+    let cg_known = if cg_size < 30 || version < 330 { 26 } else { 30 };
+    let cn_known = [218, 222, 226, 228].into_iter().filter(|&k| k <= cn_size).max();
+    let known = [(dg, 24), (cg, cg_known), (cn, cn_known.unwrap_or(218))];
+    for ((place, known), size) in known.into_iter().zip([dg_size, cg_size, cn_size]) {
+        image.put(place + known, &vec![0xEE; size - known]);
+    }
+    image.put16(cg + 16, 700);
+    image.put16(cg + 20, 2);
+    image.put32(cg + 22, 1);
+    let data = image.append(&[5, 6, 7]);
+    image.put32(dg + 16, data as u32);
+    let mut copy = Laid::new(version);
+    copy.group(2);
+    copy.channel(1);
+    copy.records(1, &[5, 6]);
+    let name = format!("version {version}, blocks of {dg_size}, {cg_size} and {cn_size}, copied");
+    book.copied(name, &image.bytes, &copy.sheet.bytes);
 }
 
 /// One text behind every link that may lead to a text: it is copied each time.

@@ -2,7 +2,8 @@
 //!
 //! All faults of the full file are listed in the order in which a check
 //! meets them. Every two of them that do not write the same bytes make a
-//! case. No fault reaches a test that comes before its own.
+//! case. No fault reaches a test that comes before its own. Then each of
+//! them once more, in a file of version 329 with sample reduction links.
 
 use super::{full, Book, Full};
 
