@@ -12,13 +12,14 @@ use lib.ListN.{length}
 use borrow.Author.Tests.{ltb-true, lt-ltb}
 use Rattle.spec.specs.Bytes.{isNil, field, link}
 use Rattle.spec.specs.Answer.{Answer, refused, accepted, _>>=_, require, mapAnswer, atPlace}
-use Rattle.spec.specs.Block.{Kind, CG, TX, Image, imageOf, opening, openBlock, Opened, openAs, bodyAt, readHd, readDg, CgBlock, readCg, CnBlock}
+use Rattle.spec.specs.Block.{Kind, CG, TX, Image, imageOf, opening, openBlock, Opened, openAs, bodyAt, readHd, readDg, CgBlock, readCg, CnBlock, readCn}
 use Rattle.spec.specs.Reading.{Reading}
-use Rattle.spec.specs.Records.{inOrder, logFrom, logOf}
+use Rattle.spec.specs.Records.{inOrder, byID, logFrom, logOf}
 use Rattle.spec.specs.Found.{FoundFile, readingOf}
-use Rattle.spec.specs.Walk.{conversionAt, channelAt, channelList, groupList, channelCount, dataGroupList, fileFrom, identPasses, walk, reads}
+use Rattle.spec.specs.Walk.{fieldsPass, formulaPasses, conversionAt, channelAt, channelList, groupList, channelCount, dataGroupList, fileFrom, identPasses, walk, reads}
+use Rattle.spec.specs.Canonical.{channelLength, copyLength}
 use Rattle.spec.specs.Call.{checkOutcome, copying, copyOutcome}
-use Rattle.spec.specs.Since330.{asVersion330, walkBefore, readsBefore, copyingBefore, NilBelow330, CountedInEveryVersion, ReductionRefused, DiffersBelow330Alone, AsBeforeFrom330, AcceptedBeforeIsAccepted, CopyIsAsBefore, MoreIsAccepted}
+use Rattle.spec.specs.Since330.{asVersion330, walkBefore, readsBefore, copyingBefore, NilBelow330, CountedInEveryVersion, ReductionRefused, DiffersBelow330Alone, AsBeforeFrom330, AcceptedBeforeIsAccepted, CopyIsAsBefore, MoreIsAccepted, SomethingWasCopied}
 use Rattle.spec.proofs.Blocks.{cond-same}
 use Rattle.spec.proofs.Answers.{stop, fail}
 
@@ -176,5 +177,9 @@ unfolding copyOutcome copying copyingBefore
 copy-is-as-before a r e out = rw (accepted-before-is-accepted a r e, e)
 
 pub more-is-accepted : MoreIsAccepted
-unfolding field _>>=_ require opening openBlock bodyAt readHd readDg readCg inOrder logFrom logOf readingOf channelList groupList dataGroupList fileFrom identPasses walk reads checkOutcome walkBefore
-more-is-accepted = (refl, refl)
+unfolding field _>>=_ require opening openBlock bodyAt readHd readDg readCg inOrder logFrom logOf readingOf channelList groupList dataGroupList fileFrom identPasses walk checkOutcome walkBefore readsBefore copyingBefore
+more-is-accepted = (refl, refl, refl, refl)
+
+pub something-was-copied : SomethingWasCopied
+unfolding field _>>=_ require opening openBlock bodyAt readHd readDg readCg readCn byID logFrom logOf readingOf fieldsPass formulaPasses conversionAt channelAt channelList groupList dataGroupList identPasses channelLength copyLength walkBefore readsBefore copyingBefore
+something-was-copied = refl

@@ -593,6 +593,14 @@ abbrev pub sharedGroup : List ℕ
 sharedGroup =
     join (id300 ∷ hdBlock 228 0 0 2 ∷ dgBlock 256 284 0 0 1 0 ∷ dgBlock 0 284 0 0 1 0 ∷ cgBlock 0 314 0 0 1 1 0 0 ∷ signal 0 8 0 ∷ [])
 
+-- a sample reduction link in the second CG, of the same data group (at 286) and of the next one (at 314)
+abbrev pub secondReduction : ℕ → List ℕ
+secondReduction link = oneDataGroup (dgBlock 0 256 0 0 2 1) (cgBlock 286 0 0 1 0 0 0 0 ++ cgBlock 0 0 0 2 0 0 0 link)
+
+abbrev pub nextReduction : ℕ → List ℕ
+nextReduction link =
+    oneDataGroup (dgBlock 286 256 0 0 1 0) (join (cgBlock 0 0 0 0 0 0 0 0 ∷ dgBlock 0 314 0 0 1 2 ∷ cgBlock 0 0 0 0 0 0 0 link ∷ []))
+
 -- rows for single clauses, each named by its section of docs/RULES.md
 unfoldable pub clauses : List Example
 clauses =
@@ -623,7 +631,12 @@ clauses =
     ∷ checked (ofVersion 330 (oneChannelGroup 0 (cut 29 (cgBlock 0 0 0 0 0 0 0 4294967295)) (1 ∷ []))) 0 0
     ∷ checked (ofVersion 330 (oneChannelGroup 0 (longer (cgBlock 0 0 0 0 0 0 0 4294967295) (1 ∷ 1 ∷ [])) [])) 6 282
     ∷ checked (ofVersion 399 (oneChannelGroup 0 (cgBlock 0 0 0 0 0 0 0 4294967295) [])) 6 282
-    -- 2.5, 4.2: such a link is passed over, to the test behind it, and in the copy it is nil
+    -- 2.5: both in every group and every mode
+    ∷ checked (ofVersion 329 (secondReduction 65536)) 0 0
+    ∷ checked (ofVersion 330 (secondReduction 65536)) 6 312
+    ∷ checked (ofVersion 329 (nextReduction 256)) 0 0
+    ∷ checked (ofVersion 330 (nextReduction 256)) 6 340
+    -- 2.5, 4.2: a link that does not count is passed over, to the test behind it, and in the copy it is nil
     ∷ checked (ofVersion 329 (oneChannelGroup 1 (cgBlock 1 1 1 256 0 0 1 1) [])) 8 272
     ∷ copies (oneChannelGroup 0 (cgBlock 0 0 0 0 0 1 1 4294967295) (zeros 228 ++ (65 ∷ []))) (room 287) (record { given = success 287; memory = join (id300 ∷ hdBlock 228 0 0 1 ∷ dgBlock 0 256 0 286 1 0 ∷ cgBlock 0 0 0 0 0 1 1 0 ∷ (65 ∷ []) ∷ []) })
     -- 3.2, 3.3, 4.1: channels in link order, each with its own comment, long name and display name

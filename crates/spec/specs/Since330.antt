@@ -17,7 +17,7 @@ use Rattle.spec.specs.Found.{FoundFile, readingOf}
 use Rattle.spec.specs.Walk.{dataGroupList, identPasses, most, walk, reads}
 use Rattle.spec.specs.Canonical.{copyLength}
 use Rattle.spec.specs.Call.{checkOutcome, copied, copyOutcome}
-use Rattle.spec.specs.Example.{success, idBlock, mdf, hdBlock, dgBlock, cgBlock}
+use Rattle.spec.specs.Example.{success, idBlock, mdf, hdBlock, dgBlock, cgBlock, mode1, ofVersion}
 
 -- ---- the earlier rule
 
@@ -96,11 +96,20 @@ abbrev pub CopyIsAsBefore : Type 0
 CopyIsAsBefore =
     (a : List ℕ) (r : Reading) → readsBefore a ≡ accepted r → (out : List ℕ) → copyOutcome a out ≡ copied (copyingBefore a (length out)) out
 
--- ---- that more is accepted
+-- ---- that they speak of some image
 
 -- version 329, and one CG whose bytes 26 to 29 are not all 0
 abbrev pub unusedLink329 : List ℕ
 unusedLink329 = join (idBlock mdf 0 0 329 ∷ hdBlock 228 0 0 1 ∷ dgBlock 0 256 0 0 1 0 ∷ cgBlock 0 0 0 0 0 0 0 0xF0000001 ∷ [])
 
+-- more is accepted: it was refused, and is no longer; likewise in version 300
 abbrev pub MoreIsAccepted : Type 0
-MoreIsAccepted = (passed (walkBefore unusedLink329) ≡ refused 6 282) × (checkOutcome unusedLink329 ≡ success tt)
+MoreIsAccepted =
+    (passed (walkBefore unusedLink329) ≡ refused 6 282)
+    × (checkOutcome unusedLink329 ≡ success tt)
+    × (passed (copyingBefore (ofVersion 300 unusedLink329) 999) ≡ refused 6 282)
+    × (checkOutcome (ofVersion 300 unusedLink329) ≡ success tt)
+
+-- and files below version 330 were accepted
+abbrev pub SomethingWasCopied : Type 0
+SomethingWasCopied = passed (copyingBefore mode1 577) ≡ accepted tt

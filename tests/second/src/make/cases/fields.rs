@@ -249,6 +249,26 @@ fn reductions(book: &mut Book) {
             }
         }
     }
+    for version in 300..=399 {
+        for (mode, groups) in [(0, 1), (1, 2), (2, 3)] {
+            last_reduction(book, version, mode, groups);
+        }
+    }
+}
+
+/// A sample reduction link in the last of some groups.
+fn last_reduction(book: &mut Book, version: u16, mode: u16, groups: usize) {
+    let shapes = [(1, 1, 0), (2, 1, 0), (3, 1, 0)];
+    let mut file = logged(mode, &shapes[..groups], &[]);
+    let place = file.cg[groups - 1] + 26;
+    file.sheet.put16(28, version);
+    file.sheet.put32(place, 0x0100);
+    let name = format!("version {version}, mode {mode}, sample reduction at {place}");
+    if version < 330 {
+        book.accept(name, &file.sheet.bytes);
+    } else {
+        book.expect(name, &file.sheet.bytes, 6, place);
+    }
 }
 
 /// Channels too short for their last fields, with those bytes set behind.
