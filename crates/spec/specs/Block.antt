@@ -205,7 +205,7 @@ pub record CgBlock : Type 0 where
   pub recordCount : ℕ
   pub reduction : Option ℕ  -- from version 330 on
 
--- below version 330 the sample reduction link is nil, whatever stands there and whatever the size
+-- below version 330 the sample reduction link is nil, whatever stands there and whatever the size (2.5)
 unfoldable pub readCg : ℕ → List ℕ → CgBlock
 readCg version cg =
     record {
