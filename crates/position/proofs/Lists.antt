@@ -7,8 +7,9 @@ use native.Mathlib.Omega.{arith}
 use native.Mathlib.Numerals.{add-one}
 use lib.ListN.{length, drop}
 use Rattle.spec.specs.Bytes.{All}
-use Rattle.spec.specs.Answer.{Answer, refused, accepted, _>>=_}
+use Rattle.spec.specs.Answer.{Answer, accepted, _>>=_}
 use Rattle.spec.proofs.Answers.{Gives}
+pub use Rattle.spec.proofs.Answers.{not-both}
 
 -- ---- lists
 
@@ -45,6 +46,3 @@ self m = record { given = λ a e. e }
 pub gives-step : {A B : Type 0} {m : Answer A} {a : A} (f : A → Answer B) {Q : B → Type 0} → m ≡ accepted a → Gives (f a) Q → Gives (m >>= f) Q
 unfolding _>>=_
 gives-step f e g = rw e g
-
-pub not-both : {A : Type 0} {m : Answer A} {a : A} {n p : ℕ} → m ≡ accepted a → m ≡ refused n p → ⊥
-not-both e f = let z : _≡_ {A = ℕ} 0 1 = cc in absurd (omega arith)

@@ -9,25 +9,28 @@ use mathlib.Core.Option.{Option, none, some}
 use native.Mathlib.Omega.{arith}
 use lib.Dec.{ltb}
 use lib.ListN.{length}
-use borrow.Author.Tests.{ltb-true, lt-ltb}
+use borrow.Author.Tests.{ltb-true, lt-ltb, le-ltb}
 use Rattle.spec.specs.Bytes.{isNil, field, link}
 use Rattle.spec.specs.Answer.{Answer, refused, accepted, _>>=_, require, mapAnswer, atPlace}
 use Rattle.spec.specs.Block.{Kind, CG, TX, Image, imageOf, opening, openBlock, Opened, openAs, bodyAt, readHd, readDg, CgBlock, readCg, CnBlock, readCn}
-use Rattle.spec.specs.Reading.{Reading}
 use Rattle.spec.specs.Records.{inOrder, byID, logFrom, logOf}
-use Rattle.spec.specs.Found.{FoundFile, readingOf}
+use Rattle.spec.specs.Found.{readingOf}
 use Rattle.spec.specs.Walk.{fieldsPass, formulaPasses, conversionAt, channelAt, channelList, groupList, channelCount, dataGroupList, fileFrom, identPasses, walk, reads}
 use Rattle.spec.specs.Canonical.{channelLength, copyLength}
 use Rattle.spec.specs.Call.{checkOutcome, copying, copyOutcome}
-use Rattle.spec.specs.Since330.{asVersion330, walkBefore, readsBefore, copyingBefore, NilBelow330, CountedInEveryVersion, ReductionRefused, DiffersBelow330Alone, AsBeforeFrom330, AcceptedBeforeIsAccepted, CopyIsAsBefore, MoreIsAccepted, SomethingWasCopied}
+use Rattle.spec.specs.Since330.{asVersion330, walkBefore, readsBefore, copyingBefore, NilBelow330, CountsFrom330, CountedInEveryVersion, ReductionRefused, DiffersBelow330Alone, AsBeforeFrom330, AcceptedBeforeIsAccepted, CopyIsAsBefore, MoreIsAccepted, SomethingWasCopied}
 use Rattle.spec.proofs.Blocks.{cond-same}
-use Rattle.spec.proofs.Answers.{stop, fail}
+use Rattle.spec.proofs.Answers.{stop, fail, not-both}
 
 -- ---- one CG
 
 pub nil-below-330 : NilBelow330
 unfolding readCg
 nil-below-330 version block h = rw (lt-ltb version 330 h)
+
+pub counts-from-330 : CountsFrom330
+unfolding readCg
+counts-from-330 version block h = rw (le-ltb version 330 h)
 
 pub counted-in-every-version : CountedInEveryVersion
 unfolding readCg
@@ -163,14 +166,10 @@ differs-below-330-alone a =
 pub as-before-from-330 : AsBeforeFrom330
 as-before-from-330 a h = ⊎-elim (λ e. e) (λ s. absurd (omega (arith, s .0))) (differs-below-330-alone a)
 
--- what is refused has no reading
-refused-unread : {m : Answer FoundFile} {n p : ℕ} {r : Reading} → m ≡ refused n p → mapAnswer readingOf m ≡ accepted r → ⊥
-refused-unread o e = let q = rw o at e in let z : _≡_ {A = ℕ} 0 1 = cc in absurd (omega arith)
-
 pub accepted-before-is-accepted : AcceptedBeforeIsAccepted
 unfolding readsBefore reads
 accepted-before-is-accepted a r e =
-    ⊎-elim (λ s. ap (mapAnswer readingOf) s ∙ e) (λ s. absurd (refused-unread (s .1 .refusal) e)) (differs-below-330-alone a)
+    ⊎-elim (λ s. ap (mapAnswer readingOf) s ∙ e) (λ s. absurd (not-both e (ap (mapAnswer readingOf) (s .1 .refusal)))) (differs-below-330-alone a)
 
 pub copy-is-as-before : CopyIsAsBefore
 unfolding copyOutcome copying copyingBefore

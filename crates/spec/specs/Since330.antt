@@ -1,5 +1,5 @@
--- The sample reduction link of a CG counts from version 330 on; docs/RULES.md, 2.5. Before, it counted in every version.
--- That earlier rule stands here alone, with what the change keeps; no call rests on it. Proofs: proofs/Since330.antt.
+-- The sample reduction link of a CG counts from version 330 on; docs/RULES.md, 2.5. By an earlier rule it counted in every version.
+-- That rule stands here alone, and no call rests on it; what was accepted by it is accepted, and copied, as it was. Proofs: proofs/Since330.antt.
 -- Assumes nothing.
 use Prim.Native.Nat.{ℕ, _+_, _≤_, _<_}
 use mathlib.Core.Path.{_≡_}
@@ -18,6 +18,16 @@ use Rattle.spec.specs.Walk.{dataGroupList, identPasses, most, walk, read
 use Rattle.spec.specs.Canonical.{copyLength}
 use Rattle.spec.specs.Call.{checkOutcome, copied, copyOutcome}
 use Rattle.spec.specs.Example.{success, idBlock, mdf, hdBlock, dgBlock, cgBlock, mode1, ofVersion}
+
+-- ---- the rule, for one CG
+
+-- below version 330 the link is nil, whatever the block is
+abbrev pub NilBelow330 : Type 0
+NilBelow330 = (version : ℕ) (block : List ℕ) → version < 330 → readCg version block .reduction ≡ none
+
+-- from version 330 on it is what stands at 26, as soon as the size holds it
+abbrev pub CountsFrom330 : Type 0
+CountsFrom330 = (version : ℕ) (block : List ℕ) → 330 ≤ version → readCg version block .reduction ≡ link 26 block
 
 -- ---- the earlier rule
 
@@ -47,12 +57,6 @@ copyingBefore image room = do
   _ ← require (leb (copyLength r) room) 13 (copyLength r)
   accepted r
 
--- ---- the two rules for one CG
-
--- below version 330 the link is nil, whatever the block is
-abbrev pub NilBelow330 : Type 0
-NilBelow330 = (version : ℕ) (block : List ℕ) → version < 330 → readCg version block .reduction ≡ none
-
 -- what was read of a CG, its link being what stands at 26 as soon as the size holds it
 abbrev pub counted : CgBlock → List ℕ → CgBlock
 counted cg block =
@@ -66,7 +70,7 @@ counted cg block =
       reduction = link 26 block;
     }
 
--- the earlier rule: so it was in every version
+-- so it was in every version
 abbrev pub CountedInEveryVersion : Type 0
 CountedInEveryVersion = (image : Image) (block : List ℕ) → readCg (asVersion330 image .version) block ≡ counted (readCg (image .version) block) block
 

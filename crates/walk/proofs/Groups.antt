@@ -7,8 +7,8 @@ use mathlib.Core.List.{List}
 use native.Mathlib.Omega.{arith}
 use lib.ListN.{length, take, drop, getD, drop-of-length-le}
 use lib.Seq.{length-take-le}
-use borrow.Author.Tests.{lt-ltb, le-ltb, eq-eqb, ne-eqb}
-use Rattle.spec.specs.Bytes.{u16, u32, toLink}
+use borrow.Author.Tests.{eq-eqb, ne-eqb}
+use Rattle.spec.specs.Bytes.{u16, u32}
 use Rattle.spec.specs.Answer.{refused}
 use Rattle.spec.specs.Block.{Image, readCg}
 use Rattle.spec.specs.Walk.{elem}
@@ -33,17 +33,6 @@ module _ (x : ℕ) (ids : List ℕ) (n i : ℕ) (l : n ≤ length ids) where
     elem-none h =
         let e : length (take n ids) ≤ i = omega (arith, length-take-le n ids l) in
         sym (s ∙ ap (elem x) (drop-of-length-le (take n ids) e))
-
--- ---- the sample reduction link, by the version
-
-module _ (version : ℕ) (cg : List ℕ) {v : ℕ} (is : v ≡ version) where
-  pub reduction-below : v < 330 → toLink 0 ≡ readCg version cg .reduction
-  unfolding readCg
-  reduction-below h = rw (lt-ltb version 330 (omega (arith, is)))
-
-  pub reduction-from : {l : ℕ} → 330 ≤ v → l ≡ u32 26 cg → toLink l ≡ readCg version cg .reduction
-  unfolding readCg
-  reduction-from h e = rw (le-ltb version 330 (omega (arith, is))) (ap toLink e)
 
 -- ---- one group
 
