@@ -18,7 +18,7 @@ use Rattle.spec.specs.Canonical.{channelLength, copyLength, channelBytes
 use Rattle.spec.specs.Differences.{sameChannel, sameOwn, sameHeader, alone, fileEntries, channelEntries, recordEntries, groupEntries, groupsAlone, groupsEntries, differences, listLength, listBytes}
 use Rattle.spec.specs.Sample.{pattern, storedAs, storedSample, signedOf, rawValue, partOf, numberOf, linear, converted, physicalValue}
 use Rattle.spec.specs.Call.{checkOutcome, copying, copyOutcome, comparing, compareOutcome, asking, sampling, sampleOutcome, rawOutcome, partOutcome, physicalOutcome, programming, programOutcome, programOutput}
-use Rattle.spec.specs.Example.{Agree, marked, MarkedExamplesAgree, checks, others, edges, clauses, comparisons, OwnExamplesAgree, SmallExamplesAgree, AbsentIsNotEmpty, MovedRecordIsSeen}
+use Rattle.spec.specs.Example.{Agree, marked, MarkedExamplesAgree, checks, others, edges, clauses, openings, comparisons, OwnExamplesAgree, SmallExamplesAgree, AbsentIsNotEmpty, MovedRecordIsSeen}
 
 pub marked-examples-agree : MarkedExamplesAgree
 unfolding marked field _>>=_ require present opening openBlock bodyAt readHd writeHd readDg writeDg readCg writeCg readCn writeCn inOrder byID logFrom logOf readingOf fieldsPass formulaPasses conversionAt channelAt channelList groupList dataGroupList fileFrom identPasses walk reads channelLength copyLength channelBytes channelsBytes groupBytes groupsBytes canonicalCopy pattern storedAs storedSample signedOf rawValue checkOutcome copying copyOutcome asking sampling rawOutcome
@@ -40,12 +40,16 @@ own-clauses : Agree clauses
 unfolding clauses field _>>=_ require present opening openBlock bodyAt readHd writeHd readDg writeDg readCg writeCg readCn writeCn inOrder byID logFrom logOf readingOf fieldsPass formulaPasses conversionAt channelAt channelList groupList dataGroupList fileFrom identPasses walk reads channelLength copyLength channelBytes channelsBytes groupBytes groupsBytes canonicalCopy pattern storedAs storedSample signedOf rawValue checkOutcome copying copyOutcome asking sampling rawOutcome partOf numberOf linear converted physicalValue partOutcome physicalOutcome programming programOutput ofBits ofInt add mul
 own-clauses = refl
 
+own-openings : Agree openings
+unfolding openings field _>>=_ require opening openBlock bodyAt readHd readDg readCg readCn inOrder byID logFrom logOf readingOf fieldsPass formulaPasses conversionAt channelAt channelList groupList dataGroupList fileFrom identPasses walk reads checkOutcome
+own-openings = refl
+
 own-comparisons : Agree comparisons
 unfolding comparisons sameChannel sameOwn sameHeader alone fileEntries channelEntries recordEntries groupEntries groupsAlone groupsEntries differences listLength listBytes comparing compareOutcome field _>>=_ require opening openBlock bodyAt readHd readDg readCg readCn inOrder byID logFrom logOf readingOf fieldsPass formulaPasses conversionAt channelAt channelList groupList dataGroupList fileFrom identPasses walk reads
 own-comparisons = refl
 
 pub own-examples-agree : OwnExamplesAgree
-own-examples-agree = (own-checks, own-others, own-edges, own-clauses, own-comparisons)
+own-examples-agree = (own-checks, own-others, own-edges, own-clauses, own-openings, own-comparisons)
 
 pub small-examples-agree : SmallExamplesAgree
 unfolding sampleOutcome programOutcome field _>>=_ require present opening openBlock bodyAt readHd writeHd readDg writeDg readCg writeCg readCn writeCn inOrder byID logFrom logOf readingOf fieldsPass formulaPasses conversionAt channelAt channelList groupList dataGroupList fileFrom identPasses walk reads channelLength copyLength channelBytes channelsBytes groupBytes groupsBytes canonicalCopy pattern storedAs storedSample signedOf rawValue checkOutcome copying copyOutcome asking sampling rawOutcome partOf numberOf linear converted physicalValue partOutcome physicalOutcome programming programOutput ofBits ofInt add mul

@@ -6,6 +6,8 @@ pub mod Channels
 pub mod Groups
 pub mod RoundTrip
 pub mod Logs
+pub mod Opening
+pub mod Numbers
 pub mod Opens
 pub mod Accepted
 pub mod CopyBytes

@@ -100,9 +100,9 @@ sizeAt image p = number (take 2 (drop 2 (drop p (image .bytes))))
 unfoldable pub opening : Kind → Image → ℕ → Answer (List ℕ)
 opening k image p = do
   _ ← require (leb (p + head-size) (length (image .bytes))) 5 0
-  _ ← require (sameBytes (take 2 (drop p (image .bytes))) (identifier k)) 5 0
-  _ ← require (leb (k .least) (sizeAt image p)) 5 0
-  _ ← require (leb (p + sizeAt image p) (length (image .bytes))) 5 0
+  _ ← require (sameBytes (take 2 (drop p (image .bytes))) (identifier k)) 17 0
+  _ ← require (leb (k .least) (sizeAt image p)) 18 0
+  _ ← require (leb (p + sizeAt image p) (length (image .bytes))) 19 0
   accepted (take (sizeAt image p) (drop p (image .bytes)))
 
 -- the same, refused at the link field that leads there

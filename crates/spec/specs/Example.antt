@@ -341,34 +341,34 @@ checks =
     ∷ checked (idBlock mdf 0 0 400) 4 28
     ∷ checked (idBlock mdf 0 0 399 ++ hdBlock 0 0 0 0) 0 0
     ∷ checked id300 5 64
-    ∷ checked (header (hdBlock 1 1 1 0)) 5 72
-    ∷ checked (header (hdBlock 1 0 1 0)) 5 76
+    ∷ checked (header (hdBlock 1 1 1 0)) 17 72
+    ∷ checked (header (hdBlock 1 0 1 0)) 17 76
     ∷ checked (header (hdBlock 227 0 0 0)) 5 68
     ∷ checked (header (hdBlock 4294967295 0 0 0)) 5 68
-    ∷ checked (header (hdBlock 0 0 228 0) ++ text []) 5 76
+    ∷ checked (header (hdBlock 0 0 228 0) ++ text []) 17 76
     ∷ checked (header (hdBlock 0 0 228 0) ++ small 80 82 []) 0 0
     ∷ checked (oneDataGroup (dgBlock 0 1 1 1 0 3) []) 6 240
     ∷ checked (oneDataGroup (dgBlock 0 1 0 1 0 3) []) 8 250
     ∷ checked (oneDataGroup (dgBlock 256 0 0 1 0 2) (dgBlock 228 0 0 1 0 2)) 7 260
     ∷ checked (oneDataGroup (dgBlock 228 256 0 0 0 1) (cgBlock 286 0 0 1 0 0 0 0 ++ cgBlock 0 0 0 2 0 0 0 0)) 7 236
-    ∷ checked (oneDataGroup (dgBlock 1 0 0 4294967295 0 2) []) 5 232
-    ∷ checked (oneDataGroup (dgBlock 0 1 0 0 0 2) []) 5 236
+    ∷ checked (oneDataGroup (dgBlock 1 0 0 4294967295 0 2) []) 17 232
+    ∷ checked (oneDataGroup (dgBlock 0 1 0 0 0 2) []) 17 236
     ∷ checked (ofVersion 330 (oneChannelGroup 1 (cgBlock 1 1 1 256 0 0 1 1) [])) 6 282
     ∷ checked (oneChannelGroup 1 (cgBlock 1 1 1 256 0 0 1 0) []) 8 272
-    ∷ checked (oneChannelGroup 0 (cgBlock 1 1 1 256 0 0 1 0) []) 5 268
+    ∷ checked (oneChannelGroup 0 (cgBlock 1 1 1 256 0 0 1 0) []) 17 268
     ∷ checked (oneChannelGroup 0 (cgBlock 1 1 0 256 0 0 1 0) []) 10 276
-    ∷ checked (oneChannelGroup 0 (cgBlock 1 1 0 256 0 1 1 0) []) 5 264
+    ∷ checked (oneChannelGroup 0 (cgBlock 1 1 0 256 0 1 1 0) []) 17 264
     ∷ checked (oneChannelGroup 0 (cgBlock 1 0 0 256 0 1 1 0) []) 8 260
-    ∷ checked (oneChannelGroup 1 (cgBlock 1 0 0 255 0 1 1 0) []) 5 260
+    ∷ checked (oneChannelGroup 1 (cgBlock 1 0 0 255 0 1 1 0) []) 17 260
     ∷ checked (oneChannelGroup 1 (cgBlock 256 0 0 7 0 1 1 0) []) 8 272
     ∷ checked (oneChannelGroup 0 (cgBlock 0 0 0 256 0 0 0 0) []) 0 0
     ∷ checked (oneChannelGroup 0 (cgBlock 0 0 0 0 0 1 1 0) []) 11 514
     ∷ checked (oneDataGroup (dgBlock 1 256 0 0 0 0) (cgBlock 0 0 0 0 0 1 1 0)) 11 244
-    ∷ checked (oneChannel (cnBlock (links4 1 1 1 1) 2 1 16 17 (zeros 10)) []) 5 294
+    ∷ checked (oneChannel (cnBlock (links4 1 1 1 1) 2 1 16 17 (zeros 10)) []) 17 294
     ∷ checked (oneChannel (cnBlock (links4 514 1 1 1) 2 1 16 17 (zeros 10)) (conversion 12 (0 ∷ 0 ∷ []))) 6 556
-    ∷ checked (oneChannel (cnBlock (links4 514 1 1 1) 2 1 16 17 (zeros 10)) (conversion 11 (0 ∷ 0 ∷ []))) 5 298
+    ∷ checked (oneChannel (cnBlock (links4 514 1 1 1) 2 1 16 17 (zeros 10)) (conversion 11 (0 ∷ 0 ∷ []))) 17 298
     ∷ checked (oneChannel (cnBlock (links4 0 0 1 1) 2 1 16 17 (zeros 10)) []) 6 302
-    ∷ checked (oneChannel (cnBlock (links4 0 0 0 1) 2 1 16 17 (zeros 10)) []) 5 306
+    ∷ checked (oneChannel (cnBlock (links4 0 0 0 1) 2 1 16 17 (zeros 10)) []) 17 306
     ∷ checked (oneChannel (cnBlock (zeros 16) 2 1 16 17 (counting 1 10)) []) 9 310
     ∷ checked (oneChannel (cnBlock (zeros 16) 1 1 16 17 (counting 1 8 ++ zeros 2)) []) 9 472
     ∷ checked (oneChannel (cnBlock (zeros 16) 1 0 16 17 (counting 1 8 ++ zeros 2)) []) 9 476
@@ -479,19 +479,19 @@ edges =
     checked (oneDataGroup (dgBlock 0 256 0 286 1 2) (cgBlock 0 0 0 0 0 1 1 0 ++ (0 ∷ 65 ∷ []))) 11 286
     ∷ copies (oneGroup 2 0 (signal 0 16 0) []) (room 514) (record { given = success 514; memory = join (id300 ∷ hdBlock 228 0 0 1 ∷ dgBlock 0 256 0 0 1 0 ∷ cgBlock 0 286 0 0 1 2 0 0 ∷ signal 0 16 0 ∷ []) })
     ∷ checked (oneChannel (cnBlock (zeros 16) 0 0 9 0 (zeros 8 ++ (1 ∷ 0 ∷ []))) []) 9 472
-    ∷ checked (oneChannel (cnNext 1) []) 5 290
-    ∷ checked (header (cut 163 (hdBlock 0 0 0 0)) ++ zeros 1) 5 64
-    ∷ checked (oneDataGroup (cut 23 (dgBlock 0 0 0 0 0 0)) (zeros 9)) 5 68
+    ∷ checked (oneChannel (cnNext 1) []) 17 290
+    ∷ checked (header (cut 163 (hdBlock 0 0 0 0)) ++ zeros 1) 18 64
+    ∷ checked (oneDataGroup (cut 23 (dgBlock 0 0 0 0 0 0)) (zeros 9)) 18 68
     ∷ checked (oneDataGroup (cut 24 (dgBlock 0 0 0 0 0 0)) []) 0 0
-    ∷ checked (oneChannelGroup 0 (cut 25 (cgBlock 0 0 0 0 0 0 0 0)) (zeros 9)) 5 236
+    ∷ checked (oneChannelGroup 0 (cut 25 (cgBlock 0 0 0 0 0 0 0 0)) (zeros 9)) 18 236
     ∷ checked (ofVersion 330 (oneChannelGroup 0 (cut 26 (cgBlock 0 0 0 0 0 0 0 1)) (1 ∷ 1 ∷ 1 ∷ 1 ∷ []))) 0 0
-    ∷ checked (oneChannel (cut 217 (signal 0 16 0)) (zeros 20)) 5 264
+    ∷ checked (oneChannel (cut 217 (signal 0 16 0)) (zeros 20)) 18 264
     ∷ checked (oneChannel (cut 218 (signal 0 16 0)) (counting 1 20)) 0 0
-    ∷ checked (oneChannel (cnBlock (links4 514 0 0 0) 0 0 16 0 (zeros 10)) (cut 45 (conversion 0 (zeros 2)) ++ zeros 4)) 5 294
-    ∷ checked (oneChannel (cnBlock (links4 0 514 0 0) 0 0 16 0 (zeros 10)) (small 67 69 (0 ∷ []) ++ zeros 4)) 5 298
-    ∷ checked (header (hdBlock 0 228 0 0) ++ (84 ∷ 88 ∷ 3 ∷ 0 ∷ [])) 5 72
-    ∷ checked (header (hdBlock 0 0 228 0) ++ (80 ∷ 82 ∷ 3 ∷ 0 ∷ [])) 5 76
-    ∷ checked (header (hdBlock 0 228 0 0) ++ (84 ∷ 88 ∷ 5 ∷ 0 ∷ [])) 5 72
+    ∷ checked (oneChannel (cnBlock (links4 514 0 0 0) 0 0 16 0 (zeros 10)) (cut 45 (conversion 0 (zeros 2)) ++ zeros 4)) 18 294
+    ∷ checked (oneChannel (cnBlock (links4 0 514 0 0) 0 0 16 0 (zeros 10)) (small 67 69 (0 ∷ []) ++ zeros 4)) 18 298
+    ∷ checked (header (hdBlock 0 228 0 0) ++ (84 ∷ 88 ∷ 3 ∷ 0 ∷ [])) 18 72
+    ∷ checked (header (hdBlock 0 0 228 0) ++ (80 ∷ 82 ∷ 3 ∷ 0 ∷ [])) 18 76
+    ∷ checked (header (hdBlock 0 228 0 0) ++ (84 ∷ 88 ∷ 5 ∷ 0 ∷ [])) 19 72
     ∷ copies (idBlock mdf 0 0 319 ++ hdBlock 0 0 0 0) (room 228) (record { given = success 228; memory = idBlock mdf 0 0 319 ++ hdBlock 0 0 0 0 })
     ∷ copies (hd320 176 (counting 1 12)) (room 272) (record { given = success 272; memory = hd320 208 (counting 1 12 ++ zeros 32) })
     ∷ copies (hd320 175 (counting 1 11)) (room 272) (record { given = success 272; memory = hd320 208 (counting 1 10 ++ zeros 34) })
@@ -614,9 +614,9 @@ clauses =
     ∷ copies (hd320 207 (counting 1 43)) (room 272) (record { given = success 272; memory = hd320 208 (counting 1 12 ++ zeros 32) })
     -- 2.3: the same of CN 218, 222 and 226, long name, display name and added byte offset
     ∷ checked (oneChannel (cut 221 (cnBlock (zeros 16) 0 0 16 0 (bytesOf 4 1 ++ zeros 6))) (zeros 20)) 0 0
-    ∷ checked (oneChannel (cut 222 (cnBlock (zeros 16) 0 0 16 0 (bytesOf 4 1 ++ zeros 6))) (zeros 20)) 5 504
+    ∷ checked (oneChannel (cut 222 (cnBlock (zeros 16) 0 0 16 0 (bytesOf 4 1 ++ zeros 6))) (zeros 20)) 17 504
     ∷ checked (oneChannel (cut 225 (cnBlock (zeros 16) 0 0 16 0 (zeros 4 ++ bytesOf 4 1 ++ zeros 2))) (zeros 20)) 0 0
-    ∷ checked (oneChannel (cut 226 (cnBlock (zeros 16) 0 0 16 0 (zeros 4 ++ bytesOf 4 1 ++ zeros 2))) (zeros 20)) 5 508
+    ∷ checked (oneChannel (cut 226 (cnBlock (zeros 16) 0 0 16 0 (zeros 4 ++ bytesOf 4 1 ++ zeros 2))) (zeros 20)) 17 508
     ∷ checked (oneChannel (cut 227 (cnBlock (zeros 16) 0 0 16 0 (zeros 8 ++ bytesOf 2 1))) (zeros 20)) 0 0
     -- 2.5: the counts are never read, and written right
     ∷ copies uncounted (room 515) (record { given = success 515; memory = oneRecord 1 0 8 0 (65 ∷ []) })
@@ -656,6 +656,43 @@ clauses =
     ∷ converts (withConversion 64 3 f64-minus-zero (conversion 65535 (zeros 2))) (success (fin true 0 (pos 0)))
     ∷ converts (oneRecord 8 0 64 3 f64-most) (success (fin false 9007199254740991 (pos 971)))
     ∷ []
+
+-- ---- the four faults of a block
+
+-- a block of this identifier and least size, what stands behind its head being zeros; the image that ends with it, and the field of the link that leads there
+-- Each fault is told before those behind it: 5 where a part of the head stands there, 17 where the size is wrong too, 18 where the end is beyond the image too.
+abbrev pub faults : ℕ → ℕ → ℕ → (List ℕ → List ℕ) → ℕ → List Example
+faults first second least image field =
+    checked (image []) 5 field
+    ∷ checked (image (0 ∷ 0 ∷ 0 ∷ [])) 5 field
+    ∷ checked (image (first ∷ second ∷ 0 ∷ [])) 5 field
+    ∷ checked (image (first ∷ 0 ∷ 3 ∷ 0 ∷ [])) 17 field
+    ∷ checked (image (0 ∷ second ∷ 255 ∷ 255 ∷ [])) 17 field
+    ∷ checked (image (first ∷ second ∷ 0 ∷ 0 ∷ [])) 18 field
+    ∷ checked (image (first ∷ second ∷ 3 ∷ 0 ∷ [])) 18 field
+    ∷ checked (image (first ∷ second ∷ bytesOf 2 (least - 1))) 18 field
+    ∷ checked (image (first ∷ second ∷ (bytesOf 2 (least + 1) ++ zeros (least - 4)))) 19 field
+    ∷ checked (image (first ∷ second ∷ (bytesOf 2 least ++ zeros (least - 4)))) 0 0
+    ∷ []
+
+-- every link that a block is behind, and HD
+unfoldable pub openings : List Example
+openings =
+    faults 72 68 164 (λ bytes. id300 ++ bytes) 64
+    ++ faults 68 71 24 (λ bytes. header (hdBlock 228 0 0 0) ++ bytes) 68
+    ++ faults 84 88 4 (λ bytes. header (hdBlock 0 228 0 0) ++ bytes) 72
+    ++ faults 80 82 4 (λ bytes. header (hdBlock 0 0 228 0) ++ bytes) 76
+    ++ faults 68 71 24 (λ bytes. oneDataGroup (dgBlock 256 0 0 0 0 0) bytes) 232
+    ++ faults 67 71 26 (λ bytes. oneDataGroup (dgBlock 0 256 0 0 0 0) bytes) 236
+    ++ faults 67 71 26 (λ bytes. oneChannelGroup 1 (cgBlock 286 0 0 1 0 0 0 0) bytes) 260
+    ++ faults 67 78 218 (λ bytes. oneChannelGroup 0 (cgBlock 0 286 0 0 0 0 0 0) bytes) 264
+    ++ faults 84 88 4 (λ bytes. oneChannelGroup 0 (cgBlock 0 0 286 0 0 0 0 0) bytes) 268
+    ++ faults 67 78 218 (λ bytes. oneChannel (cnNext 514) bytes) 290
+    ++ faults 67 67 46 (λ bytes. oneChannel (cnBlock (links4 514 0 0 0) 0 0 16 0 (zeros 10)) bytes) 294
+    ++ faults 67 69 6 (λ bytes. oneChannel (cnBlock (links4 0 514 0 0) 0 0 16 0 (zeros 10)) bytes) 298
+    ++ faults 84 88 4 (λ bytes. oneChannel (cnBlock (links4 0 0 0 514) 0 0 16 0 (zeros 10)) bytes) 306
+    ++ faults 84 88 4 (λ bytes. oneChannel (cnBlock (zeros 16) 0 0 16 0 (bytesOf 4 514 ++ zeros 6)) bytes) 504
+    ++ faults 84 88 4 (λ bytes. oneChannel (cnBlock (zeros 16) 0 0 16 0 (zeros 4 ++ bytesOf 4 514 ++ zeros 2)) bytes) 508
 
 -- ---- two files compared
 
@@ -767,7 +804,7 @@ comparisons =
     ∷ []
 
 abbrev pub OwnExamplesAgree : Type 0
-OwnExamplesAgree = Agree checks × Agree others × Agree edges × Agree clauses × Agree comparisons
+OwnExamplesAgree = Agree checks × Agree others × Agree edges × Agree clauses × Agree openings × Agree comparisons
 
 -- what the tables have no row for: samples of a later group and record, the function under the program, numbers as bytes, the limits of 7 at their end, the limit of 1 and 12
 -- Where a file may have one channel, the second is refused also in a later group or data group.

@@ -1,0 +1,42 @@
+-- Which numbers each call gives, and that it gives no other; docs/RULES.md, 5.3. Proofs: proofs/Numbers.antt.
+-- Assumes nothing.
+use Prim.Native.Nat.{ℕ}
+use mathlib.Core.Path.{_≡_}
+use mathlib.Core.Bool.{true}
+use mathlib.Core.List.{List, [], _∷_}
+use Rattle.spec.specs.Walk.{elem}
+use Rattle.spec.specs.Call.{checkOutcome, copyOutcome, compareOutcome, sampleOutcome, rawOutcome, physicalOutcome, programOutcome}
+
+abbrev pub checkNumbers : List ℕ
+checkNumbers = 0 ∷ 1 ∷ 2 ∷ 3 ∷ 4 ∷ 5 ∷ 6 ∷ 7 ∷ 8 ∷ 9 ∷ 10 ∷ 11 ∷ 17 ∷ 18 ∷ 19 ∷ []
+
+-- copy, compare and the small program
+abbrev pub copyNumbers : List ℕ
+copyNumbers = 12 ∷ 13 ∷ checkNumbers
+
+abbrev pub sampleNumbers : List ℕ
+sampleNumbers = 14 ∷ 15 ∷ checkNumbers
+
+abbrev pub physicalNumbers : List ℕ
+physicalNumbers = 16 ∷ sampleNumbers
+
+abbrev pub CheckGivesThese : Type 0
+CheckGivesThese = (a : List ℕ) → elem (checkOutcome a .number) checkNumbers ≡ true
+
+abbrev pub CopyGivesThese : Type 0
+CopyGivesThese = (a out : List ℕ) → elem (copyOutcome a out .given .number) copyNumbers ≡ true
+
+abbrev pub CompareGivesThese : Type 0
+CompareGivesThese = (a b out : List ℕ) → elem (compareOutcome a b out .given .number) copyNumbers ≡ true
+
+abbrev pub ProgramGivesThese : Type 0
+ProgramGivesThese = (a out : List ℕ) → elem (programOutcome a out .given .number) copyNumbers ≡ true
+
+-- the call gives the raw value, from the sample as it is stored
+abbrev pub SampleGivesThese : Type 0
+SampleGivesThese =
+    (a : List ℕ) (group channel row : ℕ)
+    → (elem (sampleOutcome a group channel row .number) sampleNumbers ≡ true) × (elem (rawOutcome a group channel row .number) sampleNumbers ≡ true)
+
+abbrev pub PhysicalGivesThese : Type 0
+PhysicalGivesThese = (a : List ℕ) (group channel row : ℕ) → elem (physicalOutcome a group channel row .number) physicalNumbers ≡ true
