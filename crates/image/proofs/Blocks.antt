@@ -2,7 +2,6 @@
 -- Assumes nothing.
 use Prim.Native.Nat.{ℕ, zero, suc, _+_, _≤_}
 use mathlib.Core.Path.{_≡_, refl, sym, _∙_, ap}
-use mathlib.Core.Bool.{Bool, true, false}
 use mathlib.Core.List.{List}
 use mathlib.Core.Option.{some}
 use native.Mathlib.Omega.{arith}
@@ -10,29 +9,34 @@ use lib.ListN.{length, take, drop, length-drop}
 use lib.Seq.{length-take-le}
 use borrow.Author.Tests.{leb-true}
 use Rattle.spec.specs.Bytes.{toLink}
-use Rattle.spec.specs.Answer.{Answer, refused, accepted, _>>=_, require, atPlace}
+use Rattle.spec.specs.Answer.{Answer, refused, accepted, atPlace}
 use Rattle.spec.specs.Block.{Kind, Image, sizeAt, opening, openBlock, openAs, bodyOf, bodyAt}
-use Rattle.spec.proofs.Answers.{step, stop, Gives, gives, bind, test}
+use Rattle.spec.proofs.Answers.{step, Gives, gives, bind, test}
+use Rattle.spec.proofs.Opening.{no-other-fault, fault-is-passed-on}
 use Rattle.image.specs.declared.Span.{Span}
+use Rattle.image.specs.declared.Block.{Block}
 use Rattle.image.specs.declared.Block.the-variants.{Open, Shut}
 use Rattle.image.specs.declared.Step.the-variants.{Go, Stop}
-use Rattle.image.specs.Spans.{blockOf, blockIn, Inside, openedAs, stepOf}
+use Rattle.image.specs.Spans.{blockOf, faultOf, blockIn, Inside, openedAs, stepOf}
 
 pub not-nil : (p : ℕ) → (p ≡ 0 → ⊥) → toLink p ≡ some p
 not-nil zero h = absurd (h refl)
 not-nil (suc p) h = refl
 
--- ---- a block that does not open is refused with 5
+-- ---- a block that does not open is refused with its number
 
-shut-step : (p : ℕ) (t : Bool) (m : Answer (List ℕ)) → (Shut ≡ blockOf p m → m ≡ refused 5 0) → Shut ≡ blockOf p (require t 5 0 >>= λ _. m) → (require t 5 0 >>= λ _. m) ≡ refused 5 0
-unfolding _>>=_ require
-shut-step p true m f e = f e
-shut-step p false m f e = refl
+-- the number that `fault` gives of a block that is shut
+pub fault-shut : {x y : Block} {m n : ℕ} → x ≡ y → x ≡ Shut n → m ≡ faultOf x → Shut m ≡ y
+fault-shut e s f = ap Shut (f ∙ ap faultOf s) ∙ sym s ∙ e
 
-shut-is : (k : Kind) (image : Image) (p : ℕ) → Shut ≡ blockOf p (opening k image p) → opening k image p ≡ refused 5 0
-unfolding opening
-shut-is k image p =
-    shut-step p _ _ (shut-step p _ _ (shut-step p _ _ (shut-step p _ _ (λ e. let z : _≡_ {A = ℕ} 0 1 = cc in absurd (omega arith)))))
+shut-is : (k : Kind) (image : Image) (p : ℕ) {n : ℕ} → Shut n ≡ blockOf p (opening k image p) → opening k image p ≡ refused n 0
+shut-is k image p {n} = go (opening k image p) refl
+  where
+    go : (m : Answer (List ℕ)) → opening k image p ≡ m → Shut n ≡ blockOf p m → opening k image p ≡ refused n 0
+    go (refused n′ q) o e =
+        let a : n ≡ n′ = ap faultOf e in
+        o ∙ rw (a, no-other-fault k image p n′ q o .1)
+    go (accepted x) o e = let z : _≡_ {A = ℕ} 0 1 = cc in absurd (omega arith)
 
 -- ---- a block that opens
 
@@ -65,9 +69,8 @@ stands k image p b = go (opening k image p) refl
         rw i (record { is = o ∙ ap accepted (s .0); place = refl; inside = s .1; least = s .2 })
 
 module _ {A : Type 0} (k : Kind) (read : List ℕ → A) (image : Image) (linkField p : ℕ) where
-  pub open-shut : Shut ≡ blockOf p (opening k image p) → openAs k read image linkField p ≡ refused 5 linkField
-  unfolding openBlock
-  open-shut e = stop _ (ap (atPlace linkField) (shut-is k image p e))
+  pub open-shut : {n : ℕ} → Shut n ≡ blockOf p (opening k image p) → openAs k read image linkField p ≡ refused n linkField
+  open-shut e = fault-is-passed-on A k read image linkField p _ _ (shut-is k image p e) .0
 
   pub open-open : (b : Span) → Stands k image p b → openAs k read image linkField p ≡ accepted (openedAs read (image .bytes) b)
   unfolding openBlock
@@ -82,9 +85,8 @@ unfolding bodyAt
 body-none k image linkField l e = rw e
 
 module _ (k : Kind) (image : Image) (linkField l : ℕ) (h : l ≡ 0 → ⊥) where
-  pub body-shut : Shut ≡ blockOf l (opening k image l) → Stop 5 linkField ≡ stepOf (bodyAt k image linkField (toLink l))
-  unfolding bodyAt
-  body-shut e = rw (not-nil l h) (sym (ap stepOf (stop _ (open-shut k bodyOf image linkField l e))))
+  pub body-shut : {n : ℕ} → Shut n ≡ blockOf l (opening k image l) → Stop n linkField ≡ stepOf (bodyAt k image linkField (toLink l))
+  body-shut e = rw (not-nil l h) (sym (ap stepOf (fault-is-passed-on (List ℕ) k bodyOf image linkField l _ _ (shut-is k image l e) .1)))
 
   pub body-open : (b : Span) → Stands k image l b → bodyAt k image linkField (toLink l) ≡ accepted (some (openedAs bodyOf (image .bytes) b))
   unfolding bodyAt

@@ -10,11 +10,11 @@ use lib.ListN.{length, take, drop, getD, drop-of-length-le, length-take}
 use lib.Seq.{drop-cons, length-take-le}
 use borrow.Author.Tests.{le-leb, lt-leb, eq-eqb, ne-eqb}
 use Rattle.spec.specs.Bytes.{sameBytes, number, field}
-use Rattle.spec.specs.Block.{finalized, imageOf}
+use Rattle.spec.specs.Block.{finalized, unfinalized, imageOf}
 use Rattle.spec.proofs.Places.{field-in}
 use Rattle.image.specs.declared.Span.{Span}
 use Rattle.image.specs.declared.Block.the-variants.{Open, Shut}
-use Rattle.image.specs.Spans.{numberAt, blockIn, Inside, identBlock}
+use Rattle.image.specs.Spans.{numberAt, faultOf, blockIn, Inside, identBlock}
 use Rattle.image.proofs.Fields.{part-next, drop-take}
 
 -- ---- the identifier
@@ -37,29 +37,31 @@ module _ (xs ys : List ℕ) (i : ℕ) (a : length ys ≡ 8) (b : 8 ≤ length xs
 -- ---- its opening
 
 module _ (b : List ℕ) where
-  pub ident-short : length b < 64 → Shut ≡ identBlock b
+  pub ident-short : length b < 64 → Shut 2 ≡ identBlock b
   unfolding identBlock
   ident-short h = rw (lt-leb 64 (length b) h)
 
   module _ (l : 64 ≤ length b) where
-    pub ident-other : sameBytes (take 8 b) finalized ≡ false → Shut ≡ identBlock b
+    ident-is : (t u : Bool) → sameBytes (take 8 b) finalized ≡ t → sameBytes (take 8 b) unfinalized ≡ u
+        → cond t (Open (record { at = 0; size = 64 })) (Shut (cond u 3 2)) ≡ identBlock b
     unfolding identBlock
-    ident-other f = rw (le-leb 64 (length b) l, f)
+    ident-is t u f g = rw (le-leb 64 (length b) l, f, g)
 
     pub ident-named : sameBytes (take 8 b) finalized ≡ true → Open (record { at = 0; size = 64 }) ≡ identBlock b
-    unfolding identBlock
-    ident-named f = rw (le-leb 64 (length b) l, f)
+    ident-named f = ident-is true _ f refl
 
-    ident-is : (t : Bool) → sameBytes (take 8 b) finalized ≡ t → identBlock b ≡ cond t (Open (record { at = 0; size = 64 })) Shut
-    unfolding identBlock
-    ident-is t f = rw (le-leb 64 (length b) l, f)
+    pub ident-unfinished : sameBytes (take 8 b) finalized ≡ false → sameBytes (take 8 b) unfinalized ≡ true → Shut 3 ≡ identBlock b
+    ident-unfinished f g = ident-is false true f g
 
-    pub ident-shut : Shut ≡ identBlock b → sameBytes (take 8 b) finalized ≡ false
-    ident-shut e = go (sameBytes (take 8 b) finalized) refl
+    pub ident-other : sameBytes (take 8 b) finalized ≡ false → sameBytes (take 8 b) unfinalized ≡ false → Shut 2 ≡ identBlock b
+    ident-other f g = ident-is false false f g
+
+    pub ident-shut : {n : ℕ} → Shut n ≡ identBlock b → (sameBytes (take 8 b) finalized ≡ false) × (n ≡ cond (sameBytes (take 8 b) unfinalized) 3 2)
+    ident-shut {n} e = go (sameBytes (take 8 b) finalized) refl
       where
-        go : (t : Bool) → sameBytes (take 8 b) finalized ≡ t → sameBytes (take 8 b) finalized ≡ false
-        go true f = let e' = e ∙ ident-is true f in let z : _≡_ {A = ℕ} 0 1 = cc in absurd (omega arith)
-        go false f = f
+        go : (t : Bool) → sameBytes (take 8 b) finalized ≡ t → (sameBytes (take 8 b) finalized ≡ false) × (n ≡ cond (sameBytes (take 8 b) unfinalized) 3 2)
+        go true f = let e′ = e ∙ sym (ident-named f) in let z : _≡_ {A = ℕ} 0 1 = cc in absurd (omega arith)
+        go false f = (f, ap faultOf (e ∙ sym (ident-is false _ f refl)))
 
     pub record IdentStands (s : Span) : Type 0 where
       pub named : sameBytes (take 8 b) finalized ≡ true
@@ -71,10 +73,10 @@ module _ (b : List ℕ) where
       where
         go : (t : Bool) → sameBytes (take 8 b) finalized ≡ t → IdentStands s
         go true f =
-            let e' = e ∙ ident-is true f in
+            let e′ = e ∙ sym (ident-named f) in
             let i : s ≡ record { at = 0; size = 64 } = cc in
             record { named = f; inside = rw i (omega arith); bytes = rw i refl }
-        go false f = let e' = e ∙ ident-is false f in let z : _≡_ {A = ℕ} 0 1 = cc in absurd (omega arith)
+        go false f = let e′ = e ∙ sym (ident-is false _ f refl) in let z : _≡_ {A = ℕ} 0 1 = cc in absurd (omega arith)
 
 -- ---- its version
 

@@ -7,7 +7,7 @@ use lib.Dec.{leb}
 use lib.ListN.{length, take, drop}
 use Rattle.spec.specs.Bytes.{sameBytes, number, field}
 use Rattle.spec.specs.Answer.{Answer, refused, accepted}
-use Rattle.spec.specs.Block.{Kind, Opened, finalized}
+use Rattle.spec.specs.Block.{Kind, Opened, finalized, unfinalized}
 use Rattle.image.specs.declared.Span.{Span}
 use Rattle.image.specs.declared.Block.{Block}
 use Rattle.image.specs.declared.Block.the-variants.{Open, Shut}
@@ -24,8 +24,13 @@ kindOf id least = record { first = id % 256; second = id / 256; least = least }
 
 -- an opening's answer as the code gives it
 abbrev pub blockOf : ℕ → Answer (List ℕ) → Block
-blockOf at (refused n p) = Shut
+blockOf at (refused n p) = Shut n
 blockOf at (accepted block) = Open (record { at = at; size = length block })
+
+-- the number of the refusal of a block that is shut
+abbrev pub faultOf : Block → ℕ
+faultOf (Open b) = 0
+faultOf (Shut n) = n
 
 -- the bytes of a block, and that they are all in the image
 abbrev pub blockIn : List ℕ → Span → List ℕ
@@ -52,7 +57,9 @@ stepOf (accepted a) = Go
 abbrev pub openedAs : {A : Type 0} → (List ℕ → A) → List ℕ → Span → Opened A
 openedAs read image b = record { place = b .at; size = b .size; content = read (blockIn image b) }
 
--- ID: the first 64 bytes, where they are there and begin with the identifier
+-- ID: the first 64 bytes, where they are there and begin with the identifier. Else it is 2, or 3 where they begin with that of an unfinalized file
 unfoldable pub identBlock : List ℕ → Block
 identBlock image =
-    cond (leb 64 (length image) && sameBytes (take 8 image) finalized) (Open (record { at = 0; size = 64 })) Shut
+    cond (leb 64 (length image) && sameBytes (take 8 image) finalized)
+    (Open (record { at = 0; size = 64 }))
+    (Shut (cond (leb 64 (length image) && sameBytes (take 8 image) unfinalized) 3 2))

@@ -4,7 +4,7 @@ ghost use Prim.Native.Nat.{_+_, _^_, _≤_, _<_};
 ghost use lib.ListN.{length, take, getD};
 ghost use Rattle.spec.specs.Bytes.{sameBytes, u16, u32, u64, toLink};
 ghost use Rattle.spec.specs.Block.{imageOf, opening, bodyAt, HD, DG, CG, CN, CC, TX, PR, CE};
-ghost use Rattle.image.specs.Spans.{numberAt, kindOf, blockOf, blockIn, Inside, fieldNumber, stepOf, identBlock};
+ghost use Rattle.image.specs.Spans.{numberAt, kindOf, blockOf, faultOf, blockIn, Inside, fieldNumber, stepOf, identBlock};
 
 // ---- numbers
 
@@ -62,33 +62,45 @@ pub struct Span {
     pub size: usize,
 }
 
+// Open, or shut with the number of the refusal.
 pub enum Block {
     Open(Span),
-    Shut,
+    Shut(u32),
+}
+
+// The number of the refusal of a block that is shut; 0 of one that is open.
+pub fn fault(b: Block) -> u32
+    ensures { λ r. ⌜ r ≡ faultOf b ⌝ }
+{
+    match b {
+        Block::Open(_s) => 0,
+        Block::Shut(number) => number,
+    }
 }
 
 // The block at a place, where it opens: its identifier as a number of two bytes, its least size.
+// Else 5 where its head is not in the image, 17 for the identifier, 18 for the size, 19 for its end.
 fn open_block(image: &[u8], at: usize, id: u64, least: usize) -> Block
     ensures { λ r. ⌜ r ≡ blockOf at (opening (kindOf id least) (imageOf (now (image .entry))) at) ⌝ }
 {
     if image.len() < 4 {
-        return Block::Shut;
+        return Block::Shut(5);
     }
     if image.len() - 4 < at {
-        return Block::Shut;
+        return Block::Shut(5);
     }
     if byte(image, at) != id % 256 {
-        return Block::Shut;
+        return Block::Shut(17);
     }
     if byte(image, at + 1) != id / 256 {
-        return Block::Shut;
+        return Block::Shut(17);
     }
     let size = number(image, at + 2, 2) as usize;
     if size < least {
-        return Block::Shut;
+        return Block::Shut(18);
     }
     if image.len() - at < size {
-        return Block::Shut;
+        return Block::Shut(19);
     }
     Block::Open(Span { at, size })
 }
@@ -165,19 +177,23 @@ impl Id {
         true
     }
 
+    // Shut: 2, or 3 where the file was not finalized.
     pub fn open(image: &[u8]) -> Block
         ensures { λ r. ⌜ r ≡ identBlock (now (image .entry)) ⌝ }
     {
         if image.len() < Self::LEAST {
-            return Block::Shut;
+            return Block::Shut(2);
         }
-        if !Self::named(image, Self::ID) {
-            return Block::Shut;
+        if Self::named(image, Self::ID) {
+            return Block::Open(Span {
+                at: 0,
+                size: Self::LEAST,
+            });
         }
-        Block::Open(Span {
-            at: 0,
-            size: Self::LEAST,
-        })
+        if Self::named(image, Self::UNFINALIZED) {
+            return Block::Shut(3);
+        }
+        Block::Shut(2)
     }
 }
 
@@ -287,8 +303,9 @@ impl Ce {
         if link == 0 {
             return Step::Go;
         }
-        let Block::Open(_b) = Ce::open(image, link) else {
-            return Step::Stop(5, field);
+        let opened = Ce::open(image, link);
+        let Block::Open(_b) = opened else {
+            return Step::Stop(fault(opened), field);
         };
         Step::Go
     }
@@ -315,8 +332,9 @@ impl Tx {
         if link == 0 {
             return Step::Go;
         }
-        let Block::Open(_b) = Tx::open(image, link) else {
-            return Step::Stop(5, field);
+        let opened = Tx::open(image, link);
+        let Block::Open(_b) = opened else {
+            return Step::Stop(fault(opened), field);
         };
         Step::Go
     }
@@ -343,8 +361,9 @@ impl Pr {
         if link == 0 {
             return Step::Go;
         }
-        let Block::Open(_b) = Pr::open(image, link) else {
-            return Step::Stop(5, field);
+        let opened = Pr::open(image, link);
+        let Block::Open(_b) = opened else {
+            return Step::Stop(fault(opened), field);
         };
         Step::Go
     }

@@ -1,4 +1,4 @@
-use Rattle.image.proofs.Blocks.{body-none, body-shut, body-go}
+use Rattle.image.proofs.Blocks.{fault-shut, body-none, body-shut, body-go}
 use mathlib.Core.Path.{sym, _∙_}
 use borrow.Author.Needs.{needs}
 use Rattle.image.proofs.Ce.body.Statement.{statement}
@@ -10,17 +10,20 @@ returns c = body-none _ _ _ _ (c .if1 .taken)
 open-requires : tie.Need-open-requires
 open-requires c κs = search needs
 
-enum-known--b : tie.Need-enum-known--b
-enum-known--b c = search needs
+enum-known-opened : tie.Need-enum-known-opened
+enum-known-opened c = search needs
 
 enum-told : tie.Need-enum-told
 enum-told c = search needs
 
+fault-requires : tie.Need-fault-requires
+fault-requires c κs = search needs
+
 returns-2 : tie.Need-returns-2
-returns-2 c = body-shut _ _ _ _ (c .before .before .before .if1 .left) (sym (c .enum-told .given .1) ∙ c .before .before .«open» .ensures)
+returns-2 c = body-shut _ _ _ _ (c .before .before .before .before .if1 .left) (fault-shut (c .before .before .before .«open» .ensures) (c .before .enum-told .given .1) (c .fault .ensures))
 
 returns-3 : tie.Need-returns-3
-returns-3 c = body-go _ _ _ _ (c .before .before .before .before .if1 .left) _ (sym (c .before .-b .given .1) ∙ c .before .before .before .«open» .ensures)
+returns-3 c = body-go _ _ _ _ (c .before .before .before .before .if1 .left) _ (sym (c .before .opened .given .1) ∙ c .before .before .before .«open» .ensures)
 
 pub body-spec : {M : Type 1} → statement M
-body-spec = tie.close (tie.spec returns open-requires enum-known--b enum-told returns-2 returns-3)
+body-spec = tie.close (tie.spec returns open-requires enum-known-opened enum-told fault-requires returns-2 returns-3)

@@ -1,4 +1,4 @@
-use Rattle.image.proofs.Ident.{ident-short, ident-other, ident-named}
+use Rattle.image.proofs.Ident.{ident-short, ident-named, ident-unfinished, ident-other}
 use borrow.Author.Tests.{not-true, not-false}
 use denote.Ref.{now}
 use mathlib.Core.Path.{sym, _∙_}
@@ -13,10 +13,22 @@ named-requires : tie.Need-named-requires
 named-requires c κs = search needs
 
 returns-2 : tie.Need-returns-2
-returns-2 c = ident-other (now (c .before .before .before .before .args .image)) (c .before .before .if1 .left) (sym (c .before .named .ensures) ∙ not-true _ (c .if2 .taken))
+returns-2 c = ident-named (now (c .before .before .before .before .args .image)) (c .before .before .if1 .left) (sym (c .before .named .ensures) ∙ c .if2 .taken)
+
+named-requires-2 : tie.Need-named-requires-2
+named-requires-2 c κs = search needs
 
 returns-3 : tie.Need-returns-3
-returns-3 c = ident-named (now (c .before .before .before .before .args .image)) (c .before .before .if1 .left) (sym (c .before .named .ensures) ∙ not-false _ (c .if2 .left))
+returns-3 c =
+    ident-unfinished (now (c .before .before .before .before .before .before .args .image)) (c .before .before .before .before .if1 .left)
+    (sym (c .before .before .before .named .ensures) ∙ c .before .before .if2 .left)
+    (sym (c .before .named2 .ensures) ∙ c .if3 .taken)
+
+returns-4 : tie.Need-returns-4
+returns-4 c =
+    ident-other (now (c .before .before .before .before .before .before .args .image)) (c .before .before .before .before .if1 .left)
+    (sym (c .before .before .before .named .ensures) ∙ c .before .before .if2 .left)
+    (sym (c .before .named2 .ensures) ∙ c .if3 .left)
 
 pub open-spec : {M : Type 1} → statement M
-open-spec = tie.close (tie.spec returns named-requires returns-2 returns-3)
+open-spec = tie.close (tie.spec returns named-requires returns-2 named-requires-2 returns-3 returns-4)
