@@ -104,7 +104,7 @@ module _ (image : Image) (field l d g n : ℕ) where
     data-groups-full e = rw (e, not-nil l h)
 
     module _ (m : d < 1024) where
-      pub data-groups-shut : Shut ≡ blockOf l (opening DG image l) → dataGroupsFrom image field l d g n ≡ refused 5 field
+      pub data-groups-shut : {k : ℕ} → Shut k ≡ blockOf l (opening DG image l) → dataGroupsFrom image field l d g n ≡ refused k field
       unfolding dataGroupsFrom dataGroupList
       data-groups-shut e =
           let one : 1024 - d ≡ suc (1024 - (d + 1)) = omega arith in

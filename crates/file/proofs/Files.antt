@@ -2,7 +2,7 @@
 -- Assumes nothing.
 use Prim.Native.Nat.{ℕ, _+_, _≤_, _<_}
 use mathlib.Core.Path.{_≡_, refl, sym, _∙_, ap}
-use mathlib.Core.Bool.{Bool, true, false, _&&_, _||_}
+use mathlib.Core.Bool.{Bool, true, false, cond, _&&_, _||_}
 use mathlib.Core.List.{List}
 use native.Mathlib.Omega.{arith}
 use lib.Dec.{leb}
@@ -56,18 +56,26 @@ module _ (b : List ℕ) where
   short : take 8 (take 64 b) ≡ take 8 b
   short = take-take 8 64 b (omega arith)
 
-  pub ident-unfinalized : sameBytes (take 8 b) finalized ≡ false → sameBytes (take 8 b) unfinalized ≡ true → Stop 3 0 ≡ stepOf (identPasses (take 64 b))
+  ident-unfinalized : sameBytes (take 8 b) finalized ≡ false → sameBytes (take 8 b) unfinalized ≡ true → Stop 3 0 ≡ stepOf (identPasses (take 64 b))
   unfolding identPasses
   ident-unfinalized f u =
       let t : sameBytes (take 8 (take 64 b)) finalized ≡ false = rw short f in
       let e : sameBytes (take 8 (take 64 b)) finalized || sameBytes (take 8 (take 64 b)) unfinalized ≡ true = rw (short, f, u) in
       sym (ap stepOf (step _ (pass _ _ _ e) (stop _ (fail _ _ _ t))))
 
-  pub ident-neither : sameBytes (take 8 b) finalized ≡ false → sameBytes (take 8 b) unfinalized ≡ false → Stop 2 0 ≡ stepOf (identPasses (take 64 b))
+  ident-neither : sameBytes (take 8 b) finalized ≡ false → sameBytes (take 8 b) unfinalized ≡ false → Stop 2 0 ≡ stepOf (identPasses (take 64 b))
   unfolding identPasses
   ident-neither f u =
       let e : sameBytes (take 8 (take 64 b)) finalized || sameBytes (take 8 (take 64 b)) unfinalized ≡ false = rw (short, f, u) in
       sym (ap stepOf (stop _ (fail _ _ _ e)))
+
+  -- an ID that is shut
+  pub ident-refused : {n : ℕ} → sameBytes (take 8 b) finalized ≡ false → n ≡ cond (sameBytes (take 8 b) unfinalized) 3 2 → Stop n 0 ≡ stepOf (identPasses (take 64 b))
+  ident-refused f e = go (sameBytes (take 8 b) unfinalized) refl e
+    where
+      go : (u : Bool) {n : ℕ} → sameBytes (take 8 b) unfinalized ≡ u → n ≡ cond u 3 2 → Stop n 0 ≡ stepOf (identPasses (take 64 b))
+      go true u e = rw e (ident-unfinalized f u)
+      go false u e = rw e (ident-neither f u)
 
   module _ (f : sameBytes (take 8 b) finalized ≡ true) where
     t : sameBytes (take 8 (take 64 b)) finalized ≡ true
@@ -112,7 +120,7 @@ passed-last f (refused k p) = refl
 passed-last f (accepted a) = refl
 
 module _ (image : Image) (ident : List ℕ) where
-  pub header-shut : Shut ≡ blockOf 64 (opening HD image 64) → refused 5 64 ≡ passed (fileFrom image ident)
+  pub header-shut : {k : ℕ} → Shut k ≡ blockOf 64 (opening HD image 64) → refused k 64 ≡ passed (fileFrom image ident)
   unfolding fileFrom
   header-shut e = sym (ap passed (stop _ (open-shut HD (readHd (image .version)) image 64 64 e)))
 

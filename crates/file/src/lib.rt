@@ -85,8 +85,9 @@ fn data_groups(image: &[u8], start: Cursor) -> Verdict
             return Verdict::Rejected(7, field);
         }
         let link = c.link;
-        let Block::Open(dg) = Dg::open(image, link) else {
-            return Verdict::Rejected(5, field);
+        let opened = Dg::open(image, link);
+        let Block::Open(dg) = opened else {
+            return Verdict::Rejected(image::fault(opened), field);
         };
         let w = data_group(image, dg, c);
         match w {
@@ -108,11 +109,9 @@ fn ident(image: &[u8]) -> Step
     requires { ⌜ 64 ≤ length (now image) ⌝ }
     ensures { λ r. ⌜ r ≡ stepOf (identPasses (take 64 (now (image .entry)))) ⌝ }
 {
-    let Block::Open(id) = Id::open(image) else {
-        if Id::named(image, Id::UNFINALIZED) {
-            return Step::Stop(3, 0);
-        }
-        return Step::Stop(2, 0);
+    let opened = Id::open(image);
+    let Block::Open(id) = opened else {
+        return Step::Stop(image::fault(opened), 0);
     };
     if image::u16_in(image, id, 24) != 0 {
         return Step::Stop(4, 24);
@@ -134,8 +133,9 @@ fn ident(image: &[u8]) -> Step
 fn header(image: &[u8]) -> Verdict
     ensures { λ r. ⌜ answerOf r ≡ passed (fileFrom (imageOf (now (image .entry))) (take 64 (now (image .entry)))) ⌝ }
 {
-    let Block::Open(hd) = Hd::open(image, 64) else {
-        return Verdict::Rejected(5, 64);
+    let opened = Hd::open(image, 64);
+    let Block::Open(hd) = opened else {
+        return Verdict::Rejected(image::fault(opened), 64);
     };
     if let Step::Stop(number, place) = Tx::body(image, 72, image::u32_in(image, hd, 8)) {
         return Verdict::Rejected(number, place);

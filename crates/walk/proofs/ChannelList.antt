@@ -51,7 +51,7 @@ module _ (image : Image) (size field l n : ℕ) where
       one-left : 16384 - n ≡ suc (16384 - (n + 1))
       one-left = omega arith
 
-      pub channels-shut : Shut ≡ blockOf l (opening CN image l) → channelsFrom image size field l n ≡ refused 5 field
+      pub channels-shut : {k : ℕ} → Shut k ≡ blockOf l (opening CN image l) → channelsFrom image size field l n ≡ refused k field
       unfolding channelsFrom channelList
       channels-shut e = rw (not-nil l h, one-left) (ap (mapAnswer (λ xs. n + length xs)) (stop _ (open-shut CN readCn image field l e)))
 

@@ -81,7 +81,7 @@ module _ (image : Image) (p l : ℕ) where
   conversion-none e = rw e
 
   module _ (h : l ≡ 0 → ⊥) where
-    pub conversion-shut : Shut ≡ blockOf l (opening CC image l) → Stop 5 (p + 8) ≡ stepOf (conversionAt image p (toLink l))
+    pub conversion-shut : {k : ℕ} → Shut k ≡ blockOf l (opening CC image l) → Stop k (p + 8) ≡ stepOf (conversionAt image p (toLink l))
     unfolding conversionAt
     conversion-shut e = sym (then-stops (bodyAt CC image (p + 8) (toLink l)) _ (body-shut CC image (p + 8) l h e))
 

@@ -114,7 +114,7 @@ module _ (image : Image) (mode : ℕ) (ss : List Slot) (used : List ℕ) (field 
       groups-second e = rw (not-nil l h, one-left) (ap (summed ss n) (stop _ (fail _ _ _ e)))
 
       module _ (allowed : groupAllowed mode used ≡ true) where
-        pub groups-shut : Shut ≡ blockOf l (opening CG image l) → groupsFrom image mode ss used field l g n ≡ refused 5 field
+        pub groups-shut : {k : ℕ} → Shut k ≡ blockOf l (opening CG image l) → groupsFrom image mode ss used field l g n ≡ refused k field
         unfolding groupsFrom groupList
         groups-shut e =
             rw (not-nil l h, one-left) (ap (summed ss n) (step _ (pass _ _ _ allowed) (stop _ (open-shut CG (readCg (image .version)) image field l e))))

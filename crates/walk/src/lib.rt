@@ -30,8 +30,9 @@ fn conversion(image: &[u8], at: usize, link: usize) -> Step
     if link == 0 {
         return Step::Go;
     }
-    let Block::Open(cc) = Cc::open(image, link) else {
-        return Step::Stop(5, at + 8);
+    let opened = Cc::open(image, link);
+    let Block::Open(cc) = opened else {
+        return Step::Stop(image::fault(opened), at + 8);
     };
     if image::u16_in(image, cc, 42) == 12 {
         return Step::Stop(6, cc.at + 42);
@@ -219,8 +220,9 @@ fn channel_list(image: &[u8], size: usize, start: Cursor) -> Walked
             return Walked::Refused(7, field);
         }
         let link = c.link;
-        let Block::Open(cn) = Cn::open(image, link) else {
-            return Walked::Refused(5, field);
+        let opened = Cn::open(image, link);
+        let Block::Open(cn) = opened else {
+            return Walked::Refused(image::fault(opened), field);
         };
         if let Step::Stop(number, place) = channel(image, cn, size) {
             return Walked::Refused(number, place);
@@ -358,8 +360,9 @@ pub fn group_list(
             return Walked::Refused(8, field);
         }
         let link = c.link;
-        let Block::Open(cg) = Cg::open(image, link) else {
-            return Walked::Refused(5, field);
+        let opened = Cg::open(image, link);
+        let Block::Open(cg) = opened else {
+            return Walked::Refused(image::fault(opened), field);
         };
         let w = group(image, cg, mode, known(image, cg, ids, n), c);
         let Walked::Done(d) = w else {

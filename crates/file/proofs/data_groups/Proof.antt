@@ -1,6 +1,6 @@
 use Rattle.file.proofs.DataGroups.{data-groups-end, data-groups-full, data-groups-shut, data-groups-stop, data-groups-go}
 use Rattle.file.specs.DataGroups.{dataGroupsFrom}
-use Rattle.image.proofs.Blocks.{stands}
+use Rattle.image.proofs.Blocks.{stands, fault-shut}
 use Rattle.spec.specs.Block.{DG, imageOf}
 use native.Mathlib.Omega.{arith}
 use mathlib.Core.Path.{_≡_, refl, sym, _∙_}
@@ -30,22 +30,25 @@ returns c =
 open-requires : tie.Need-open-requires Inv-loop μ-loop
 open-requires c κs = search needs
 
-enum-known-dg : tie.Need-enum-known-dg Inv-loop μ-loop
-enum-known-dg c = search needs
+enum-known-opened : tie.Need-enum-known-opened Inv-loop μ-loop
+enum-known-opened c = search needs
 
 enum-told : tie.Need-enum-told Inv-loop μ-loop
 enum-told c = search needs
 
+fault-requires : tie.Need-fault-requires Inv-loop μ-loop
+fault-requires c κs = search needs
+
 returns-2 : tie.Need-returns-2 Inv-loop μ-loop
 returns-2 c =
-    let l = c .before .before .before .before .before .before .before .loop in
-    let below : l .c .dgs < 1024 = omega (arith, l .inv .0, c .before .before .before .if2 .left) in
-    sym (l .inv .3 ∙ data-groups-shut _ _ _ _ _ _ (c .before .before .before .before .before .if1 .taken) below (sym (c .enum-told .given .1) ∙ c .before .before .«open» .ensures))
+    let l = c .before .before .before .before .before .before .before .before .loop in
+    let below : l .c .dgs < 1024 = omega (arith, l .inv .0, c .before .before .before .before .if2 .left) in
+    sym (l .inv .3 ∙ data-groups-shut _ _ _ _ _ _ (c .before .before .before .before .before .before .if1 .taken) below (fault-shut (c .before .before .before .«open» .ensures) (c .before .enum-told .given .1) (c .fault .ensures)))
 
 data-group-requires : tie.Need-data-group-requires Inv-loop μ-loop
 data-group-requires c κs =
     let l = c .before .before .before .before .before .before .before .before .loop in
-    let s = stands DG _ _ _ (sym (c .before .dg .given .1) ∙ c .before .before .before .«open» .ensures) in
+    let s = stands DG _ _ _ (sym (c .before .opened .given .1) ∙ c .before .before .before .«open» .ensures) in
     (record { inside = s .inside; least = s .least }, omega (arith, l .inv .0, c .before .before .before .before .if2 .left), l .inv .1, l .inv .2)
 
 enum-known-w : tie.Need-enum-known-w Inv-loop μ-loop
@@ -54,7 +57,7 @@ enum-known-w c = search needs
 returns-3 : tie.Need-returns-3 Inv-loop μ-loop
 returns-3 c =
     let l = c .before .before .before .before .before .before .before .before .before .before .before .before .loop in
-    let s = stands DG _ _ _ (sym (c .before .before .before .before .before .dg .given .1) ∙ c .before .before .before .before .before .before .before .«open» .ensures) in
+    let s = stands DG _ _ _ (sym (c .before .before .before .before .before .opened .given .1) ∙ c .before .before .before .before .before .before .before .«open» .ensures) in
     let below : l .c .dgs < 1024 = omega (arith, l .inv .0, c .before .before .before .before .before .before .before .before .if2 .left) in
     let met = rw (c .before .w .given .1) at (c .before .before .before .data-group .ensures .0) in
     sym (l .inv .3 ∙ data-groups-stop _ _ _ _ _ _ (c .before .before .before .before .before .before .before .before .before .before .if1 .taken) below _ s met)
@@ -70,7 +73,7 @@ loop-less c =
 loop-again : tie.Need-loop-again Inv-loop μ-loop
 loop-again c =
     let l = c .before .before .before .before .before .before .before .before .before .before .before .before .loop in
-    let s = stands DG _ _ _ (sym (c .before .before .before .before .before .dg .given .1) ∙ c .before .before .before .before .before .before .before .«open» .ensures) in
+    let s = stands DG _ _ _ (sym (c .before .before .before .before .before .opened .given .1) ∙ c .before .before .before .before .before .before .before .«open» .ensures) in
     let below : l .c .dgs < 1024 = omega (arith, l .inv .0, c .before .before .before .before .before .before .before .before .if2 .left) in
     let past = rw (c .before .w2 .given .1) at (c .before .before .before .data-group .ensures .1) in
     let met = rw (c .before .w2 .given .1) at (c .before .before .before .data-group .ensures .0) in
@@ -91,8 +94,9 @@ data-groups-spec =
     loop-holds
     returns
     open-requires
-    enum-known-dg
+    enum-known-opened
     enum-told
+    fault-requires
     returns-2
     data-group-requires
     enum-known-w

@@ -1,5 +1,5 @@
 use Rattle.file.proofs.Files.{header-shut, comment-stop, program-stop, header-go}
-use Rattle.image.proofs.Blocks.{stands}
+use Rattle.image.proofs.Blocks.{stands, fault-shut}
 use Rattle.spec.specs.Block.{HD}
 use native.Mathlib.Omega.{arith}
 use mathlib.Core.Path.{sym, _∙_}
@@ -10,18 +10,21 @@ use Rattle.file.proofs.header.Tie as tie
 open-requires : tie.Need-open-requires
 open-requires c κs = search needs
 
-enum-known-hd : tie.Need-enum-known-hd
-enum-known-hd c = search needs
+enum-known-opened : tie.Need-enum-known-opened
+enum-known-opened c = search needs
 
 enum-told : tie.Need-enum-told
 enum-told c = search needs
 
+fault-requires : tie.Need-fault-requires
+fault-requires c κs = search needs
+
 returns : tie.Need-returns
-returns c = header-shut _ _ (sym (c .enum-told .given .1) ∙ c .before .before .«open» .ensures)
+returns c = header-shut _ _ (fault-shut (c .before .before .before .«open» .ensures) (c .before .enum-told .given .1) (c .fault .ensures))
 
 u32-in-requires : tie.Need-u32-in-requires
 u32-in-requires c κs =
-    let s = stands HD _ _ _ (sym (c .before .hd .given .1) ∙ c .before .before .before .«open» .ensures) in
+    let s = stands HD _ _ _ (sym (c .before .opened .given .1) ∙ c .before .before .before .«open» .ensures) in
     (omega arith, s .inside)
 
 body-requires : tie.Need-body-requires
@@ -32,7 +35,7 @@ enum-known-number c = search needs
 
 returns-2 : tie.Need-returns-2
 returns-2 c =
-    let s = stands HD _ _ _ (sym (c .before .before .before .before .before .before .hd .given .1) ∙ c .before .before .before .before .before .before .before .before .«open» .ensures) in
+    let s = stands HD _ _ _ (sym (c .before .before .before .before .before .before .opened .given .1) ∙ c .before .before .before .before .before .before .before .before .«open» .ensures) in
     comment-stop _ _ _ s (rw (c .before .before .before .before .u32-in .ensures .0) at (sym (c .before .number .given .1) ∙ c .before .before .before .body .ensures))
 
 enum-told-2 : tie.Need-enum-told-2
@@ -40,7 +43,7 @@ enum-told-2 c = search needs
 
 u32-in-requires-2 : tie.Need-u32-in-requires-2
 u32-in-requires-2 c κs =
-    let s = stands HD _ _ _ (sym (c .before .before .before .before .before .hd .given .1) ∙ c .before .before .before .before .before .before .before .«open» .ensures) in
+    let s = stands HD _ _ _ (sym (c .before .before .before .before .before .opened .given .1) ∙ c .before .before .before .before .before .before .before .«open» .ensures) in
     (omega arith, s .inside)
 
 body-requires-2 : tie.Need-body-requires-2
@@ -51,7 +54,7 @@ enum-known-number-2 c = search needs
 
 returns-3 : tie.Need-returns-3
 returns-3 c =
-    let s = stands HD _ _ _ (sym (c .before .before .before .before .before .before .before .before .before .before .hd .given .1) ∙ c .before .before .before .before .before .before .before .before .before .before .before .before .«open» .ensures) in
+    let s = stands HD _ _ _ (sym (c .before .before .before .before .before .before .before .before .before .before .opened .given .1) ∙ c .before .before .before .before .before .before .before .before .before .before .before .before .«open» .ensures) in
     program-stop _ _ _ s (rw (c .before .before .before .before .before .before .before .before .u32-in .ensures .0) at (sym (c .before .before .before .before .before .enum-told2 .given .1) ∙ c .before .before .before .before .before .before .before .body .ensures)) (rw (c .before .before .before .before .u32-in2 .ensures .0) at (sym (c .before .number2 .given .1) ∙ c .before .before .before .body2 .ensures))
 
 enum-told-3 : tie.Need-enum-told-3
@@ -59,7 +62,7 @@ enum-told-3 c = search needs
 
 u32-in-requires-3 : tie.Need-u32-in-requires-3
 u32-in-requires-3 c κs =
-    let s = stands HD _ _ _ (sym (c .before .before .before .before .before .before .before .before .before .hd .given .1) ∙ c .before .before .before .before .before .before .before .before .before .before .before .«open» .ensures) in
+    let s = stands HD _ _ _ (sym (c .before .before .before .before .before .before .before .before .before .opened .given .1) ∙ c .before .before .before .before .before .before .before .before .before .before .before .«open» .ensures) in
     (omega arith, s .inside)
 
 new-requires : tie.Need-new-requires
@@ -70,7 +73,7 @@ data-groups-requires c κs = search needs
 
 returns-4 : tie.Need-returns-4
 returns-4 c =
-    let s = stands HD _ _ _ (sym (c .before .before .before .before .before .before .before .before .before .before .before .before .hd .given .1) ∙ c .before .before .before .before .before .before .before .before .before .before .before .before .before .before .«open» .ensures) in
+    let s = stands HD _ _ _ (sym (c .before .before .before .before .before .before .before .before .before .before .before .before .opened .given .1) ∙ c .before .before .before .before .before .before .before .before .before .before .before .before .before .before .«open» .ensures) in
     let at = c .before .new .ensures in
     rw (at .0, at .1, at .2, at .3, at .4, c .before .before .u32-in3 .ensures .0) at (c .data-groups .ensures)
     ∙ header-go _ _ _ s (rw (c .before .before .before .before .before .before .before .before .before .before .u32-in .ensures .0) at (sym (c .before .before .before .before .before .before .before .enum-told2 .given .1) ∙ c .before .before .before .before .before .before .before .before .before .body .ensures)) (rw (c .before .before .before .before .before .before .u32-in2 .ensures .0) at (sym (c .before .before .before .enum-told3 .given .1) ∙ c .before .before .before .before .before .body2 .ensures))
@@ -80,8 +83,9 @@ header-spec =
     tie.close
     (tie.spec
     open-requires
-    enum-known-hd
+    enum-known-opened
     enum-told
+    fault-requires
     returns
     u32-in-requires
     body-requires

@@ -1,6 +1,6 @@
 use Rattle.walk.proofs.ChannelList.{channels-end, channels-full, channels-shut, channels-stop, channels-go}
 use Rattle.walk.specs.Lists.{channelsFrom}
-use Rattle.image.proofs.Blocks.{stands}
+use Rattle.image.proofs.Blocks.{stands, fault-shut}
 use Rattle.spec.specs.Block.{CN, imageOf}
 use native.Mathlib.Omega.{arith}
 use mathlib.Core.Path.{_≡_, refl, sym, _∙_}
@@ -31,20 +31,23 @@ returns c =
 open-requires : tie.Need-open-requires Inv-loop μ-loop
 open-requires c κs = search needs
 
-enum-known-cn : tie.Need-enum-known-cn Inv-loop μ-loop
-enum-known-cn c = search needs
+enum-known-opened : tie.Need-enum-known-opened Inv-loop μ-loop
+enum-known-opened c = search needs
 
 enum-told : tie.Need-enum-told Inv-loop μ-loop
 enum-told c = search needs
 
+fault-requires : tie.Need-fault-requires Inv-loop μ-loop
+fault-requires c κs = search needs
+
 returns-2 : tie.Need-returns-2 Inv-loop μ-loop
 returns-2 c =
-    let l = c .before .before .before .before .before .before .before .loop in
-    (sym (l .inv .4 ∙ channels-shut _ _ _ _ _ (c .before .before .before .before .before .if1 .taken) (omega (arith, l .inv .3, c .before .before .before .if2 .left)) (sym (c .enum-told .given .1) ∙ c .before .before .«open» .ensures)), tt)
+    let l = c .before .before .before .before .before .before .before .before .loop in
+    (sym (l .inv .4 ∙ channels-shut _ _ _ _ _ (c .before .before .before .before .before .before .if1 .taken) (omega (arith, l .inv .3, c .before .before .before .before .if2 .left)) (fault-shut (c .before .before .before .«open» .ensures) (c .before .enum-told .given .1) (c .fault .ensures))), tt)
 
 channel-requires : tie.Need-channel-requires Inv-loop μ-loop
 channel-requires c κs =
-    let s = stands CN _ _ _ (sym (c .before .cn .given .1) ∙ c .before .before .before .«open» .ensures) in
+    let s = stands CN _ _ _ (sym (c .before .opened .given .1) ∙ c .before .before .before .«open» .ensures) in
     (record { inside = s .inside; least = s .least }, c .before .before .before .before .before .before .before .before .before .before .pre .0)
 
 enum-known-number : tie.Need-enum-known-number Inv-loop μ-loop
@@ -53,7 +56,7 @@ enum-known-number c = search needs
 returns-3 : tie.Need-returns-3 Inv-loop μ-loop
 returns-3 c =
     let l = c .before .before .before .before .before .before .before .before .before .before .before .before .loop in
-    let s = stands CN _ _ _ (sym (c .before .before .before .before .before .cn .given .1) ∙ c .before .before .before .before .before .before .before .«open» .ensures) in
+    let s = stands CN _ _ _ (sym (c .before .before .before .before .before .opened .given .1) ∙ c .before .before .before .before .before .before .before .«open» .ensures) in
     (sym (l .inv .4 ∙ channels-stop _ _ _ _ _ (c .before .before .before .before .before .before .before .before .before .before .if1 .taken) (omega (arith, l .inv .3, c .before .before .before .before .before .before .before .before .if2 .left)) _ s _ _ (sym (c .before .number .given .1) ∙ c .before .before .before .channel .ensures)), tt)
 
 enum-told-2 : tie.Need-enum-told-2 Inv-loop μ-loop
@@ -61,12 +64,12 @@ enum-told-2 c = search needs
 
 add-past-cn : tie.Need-add-past-cn Inv-loop μ-loop
 add-past-cn c =
-    let s = stands CN _ _ _ (sym (c .before .before .before .before .before .cn .given .1) ∙ c .before .before .before .before .before .before .before .«open» .ensures) in
+    let s = stands CN _ _ _ (sym (c .before .before .before .before .before .opened .given .1) ∙ c .before .before .before .before .before .before .before .«open» .ensures) in
     omega (arith, s .inside, s .least)
 
 u32-in-requires : tie.Need-u32-in-requires Inv-loop μ-loop
 u32-in-requires c κs =
-    let s = stands CN _ _ _ (sym (c .before .before .before .before .before .cn .given .1) ∙ c .before .before .before .before .before .before .before .«open» .ensures) in
+    let s = stands CN _ _ _ (sym (c .before .before .before .before .before .opened .given .1) ∙ c .before .before .before .before .before .before .before .«open» .ensures) in
     (omega arith, s .inside)
 
 past-cn-requires : tie.Need-past-cn-requires Inv-loop μ-loop
@@ -79,7 +82,7 @@ loop-again : tie.Need-loop-again Inv-loop μ-loop
 loop-again c =
     let l = c .before .before .before .before .before .before .before .before .before .before .before .before .before .before .loop in
     let m = c .past-cn .ensures in
-    let s = stands CN _ _ _ (sym (c .before .before .before .before .before .before .before .cn .given .1) ∙ c .before .before .before .before .before .before .before .before .before .«open» .ensures) in
+    let s = stands CN _ _ _ (sym (c .before .before .before .before .before .before .before .opened .given .1) ∙ c .before .before .before .before .before .before .before .before .before .«open» .ensures) in
     let below : l .c .cns < 16384 = omega (arith, l .inv .3, c .before .before .before .before .before .before .before .before .before .before .if2 .left) in
     let g = channels-go _ (c .before .before .before .before .before .before .before .before .before .before .before .before .before .before .before .before .args .size) (l .c .field) _ _ (c .before .before .before .before .before .before .before .before .before .before .before .before .if1 .taken) below _ s (sym (c .before .before .before .enum-told2 .given .1) ∙ c .before .before .before .before .before .channel .ensures) in (
       m .2 ∙ l .inv .0,
@@ -103,8 +106,9 @@ channel-list-spec =
     loop-holds
     returns
     open-requires
-    enum-known-cn
+    enum-known-opened
     enum-told
+    fault-requires
     returns-2
     channel-requires
     enum-known-number

@@ -1,7 +1,7 @@
 use Rattle.walk.proofs.Tables.{Listing, listing-starts, listing-as, allowed-is, listing-goes, table-noted}
 use Rattle.walk.proofs.GroupList.{groups-end, groups-full, groups-second, groups-shut, groups-stop, groups-go}
 use Rattle.walk.specs.Lists.{Table}
-use Rattle.image.proofs.Blocks.{stands}
+use Rattle.image.proofs.Blocks.{stands, fault-shut}
 use Rattle.spec.specs.Block.{CG, imageOf}
 use borrow.Author.Tests.{not-true, not-false}
 use native.Mathlib.Omega.{arith}
@@ -64,11 +64,14 @@ returns-2 c =
 open-requires : tie.Need-open-requires Inv-loop μ-loop
 open-requires c κs = search needs
 
-enum-known-cg : tie.Need-enum-known-cg Inv-loop μ-loop
-enum-known-cg c = search needs
+enum-known-opened : tie.Need-enum-known-opened Inv-loop μ-loop
+enum-known-opened c = search needs
 
 enum-told : tie.Need-enum-told Inv-loop μ-loop
 enum-told c = search needs
+
+fault-requires : tie.Need-fault-requires Inv-loop μ-loop
+fault-requires c κs = search needs
 
 same-length-7 : tie.Need-same-length-7 Inv-loop μ-loop
 same-length-7 c = search needs
@@ -81,20 +84,20 @@ same-length-9 c = search needs
 
 returns-3 : tie.Need-returns-3 Inv-loop μ-loop
 returns-3 c =
-    let l = c .before .before .before .before .before .before .before .before .before .before .loop in
-    let below : l .c .cgs < 1024 = omega (arith, l .inv .3, c .before .before .before .before .before .before .if2 .left) in
-    (sym (l .inv .5 .agrees ∙ groups-shut _ _ _ _ _ _ _ _ (c .before .before .before .before .before .before .before .before .if1 .taken) below (allowed-is (l .inv .5) ∙ sym (c .before .before .before .before .zero-implies .ensures) ∙ not-false _ (c .before .before .before .if3 .left)) (sym (c .enum-told .given .1) ∙ c .before .before .«open» .ensures)), tt, l .inv .0)
+    let l = c .before .before .before .before .before .before .before .before .before .before .before .loop in
+    let below : l .c .cgs < 1024 = omega (arith, l .inv .3, c .before .before .before .before .before .before .before .if2 .left) in
+    (sym (l .inv .5 .agrees ∙ groups-shut _ _ _ _ _ _ _ _ (c .before .before .before .before .before .before .before .before .before .if1 .taken) below (allowed-is (l .inv .5) ∙ sym (c .before .before .before .before .before .zero-implies .ensures) ∙ not-false _ (c .before .before .before .before .if3 .left)) (fault-shut (c .before .before .before .«open» .ensures) (c .before .enum-told .given .1) (c .fault .ensures))), tt, l .inv .0)
 
 known-requires : tie.Need-known-requires Inv-loop μ-loop
 known-requires c κs =
     let l = c .before .before .before .before .before .before .before .before .before .before .before .before .loop in
-    let s = stands CG _ _ _ (sym (c .before .before .cg .given .1) ∙ c .before .before .before .before .«open» .ensures) in
+    let s = stands CG _ _ _ (sym (c .before .before .opened .given .1) ∙ c .before .before .before .before .«open» .ensures) in
     (record { inside = s .inside; least = s .least }, omega (arith, l .inv .0 .ids, l .inv .3))
 
 group-requires : tie.Need-group-requires Inv-loop μ-loop
 group-requires c κs =
     let l = c .before .before .before .before .before .before .before .before .before .before .before .before .before .loop in
-    let s = stands CG _ _ _ (sym (c .before .before .before .cg .given .1) ∙ c .before .before .before .before .before .«open» .ensures) in
+    let s = stands CG _ _ _ (sym (c .before .before .before .opened .given .1) ∙ c .before .before .before .before .before .«open» .ensures) in
     (record { inside = s .inside; least = s .least }, omega (arith, l .inv .3, c .before .before .before .before .before .before .before .before .before .if2 .left), l .inv .4)
 
 enum-known-w : tie.Need-enum-known-w Inv-loop μ-loop
@@ -115,7 +118,7 @@ same-length-12 c = c .before .before .before .before .before .before .before .be
 returns-4 : tie.Need-returns-4 Inv-loop μ-loop
 returns-4 c =
     let l = c .before .before .before .before .before .before .before .before .before .before .before .before .before .before .before .before .loop in
-    let s = stands CG _ _ _ (sym (c .before .before .before .before .before .before .cg .given .1) ∙ c .before .before .before .before .before .before .before .before .«open» .ensures) in
+    let s = stands CG _ _ _ (sym (c .before .before .before .before .before .before .opened .given .1) ∙ c .before .before .before .before .before .before .before .before .«open» .ensures) in
     let below : l .c .cgs < 1024 = omega (arith, l .inv .3, c .before .before .before .before .before .before .before .before .before .before .before .before .if2 .left) in
     let allowed = allowed-is (l .inv .5) ∙ sym (c .before .before .before .before .before .before .before .before .before .before .zero-implies .ensures) ∙ not-false _ (c .before .before .before .before .before .before .before .before .before .if3 .left) in
     let met = rw (c .enum-told2 .given .1, c .before .before .before .known .ensures ∙ sym (l .inv .5 .uses _)) at (c .before .before .group .ensures .0) in
@@ -124,7 +127,7 @@ returns-4 c =
 note-requires : tie.Need-note-requires Inv-loop μ-loop
 note-requires c κs =
     let l = c .before .before .before .before .before .before .before .before .before .before .before .before .before .before .before .before .before .before .before .before .loop in
-    let s = stands CG _ _ _ (sym (c .before .before .before .before .before .before .before .before .before .before .cg .given .1) ∙ c .before .before .before .before .before .before .before .before .before .before .before .before .«open» .ensures) in
+    let s = stands CG _ _ _ (sym (c .before .before .before .before .before .before .before .before .before .before .opened .given .1) ∙ c .before .before .before .before .before .before .before .before .before .before .before .before .«open» .ensures) in
     (record { inside = s .inside; least = s .least }, l .inv .0, omega (arith, l .inv .3, c .before .before .before .before .before .before .before .before .before .before .before .before .before .before .before .before .if2 .left))
 
 loop-less : tie.Need-loop-less Inv-loop μ-loop
@@ -136,7 +139,7 @@ loop-again : tie.Need-loop-again Inv-loop μ-loop
 loop-again c =
     let l = c .before .before .before .before .before .before .before .before .before .before .before .before .before .before .before .before .before .before .before .before .before .before .before .before .before .before .before .loop in
     let a = c .before .before .before .before .before .before .before .before .before .before .before .before .before .before .before .before .before .before .before .before .before .before .before .before .before .before .before .before .before .before .before .before .args in
-    let s = stands CG _ _ _ (sym (c .before .before .before .before .before .before .before .before .before .before .before .before .before .before .before .before .before .cg .given .1) ∙ c .before .before .before .before .before .before .before .before .before .before .before .before .before .before .before .before .before .before .before .«open» .ensures) in
+    let s = stands CG _ _ _ (sym (c .before .before .before .before .before .before .before .before .before .before .before .before .before .before .before .before .before .opened .given .1) ∙ c .before .before .before .before .before .before .before .before .before .before .before .before .before .before .before .before .before .before .before .«open» .ensures) in
     let below : l .c .cgs < 1024 = omega (arith, l .inv .3, c .before .before .before .before .before .before .before .before .before .before .before .before .before .before .before .before .before .before .before .before .before .before .before .if2 .left) in
     let few : l .c .cgs - a .start .cgs < 1024 = omega arith in
     let allowed = allowed-is (l .inv .5) ∙ sym (c .before .before .before .before .before .before .before .before .before .before .before .before .before .before .before .before .before .before .before .before .before .zero-implies .ensures) ∙ not-false _ (c .before .before .before .before .before .before .before .before .before .before .before .before .before .before .before .before .before .before .before .before .if3 .left) in
@@ -185,8 +188,9 @@ group-list-spec =
     same-length-6
     returns-2
     open-requires
-    enum-known-cg
+    enum-known-opened
     enum-told
+    fault-requires
     same-length-7
     same-length-8
     same-length-9
