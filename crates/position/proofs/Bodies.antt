@@ -65,7 +65,7 @@ module _ (k : Kind) (image : List ℕ) where
   behind-none l e = rw e
 
   module _ (l : ℕ) (h : l ≡ 0 → ⊥) where
-    pub behind-shut : Shut ≡ blockOf l (opening k (imageOf image) l) → none ≡ bodyBehind k image l
+    pub behind-shut : {n : ℕ} → Shut n ≡ blockOf l (opening k (imageOf image) l) → none ≡ bodyBehind k image l
     unfolding bodyAt bodyBehind
     behind-shut e = rw (not-nil l h) (sym (ap bodyIn (stop _ (open-shut k bodyOf (imageOf image) 0 l e))))
 

@@ -57,7 +57,7 @@ module _ (image : Image) where
   no-channels (suc left) size field l e h = let h′ = rw e at h in cc
 
   module _ (size field l : ℕ) (h : l ≡ 0 → ⊥) where
-    pub channel-opens : (left : ℕ) {cs : List FoundChannel} → channelList image left size field (toLink l) ≡ accepted cs → Shut ≡ blockOf l (opening CN image l) → ⊥
+    pub channel-opens : (left : ℕ) {cs : List FoundChannel} → channelList image left size field (toLink l) ≡ accepted cs → {n : ℕ} → Shut n ≡ blockOf l (opening CN image l) → ⊥
     unfolding channelList
     channel-opens zero e s = not-both (rw (not-nil l h) at e) refl
     channel-opens (suc left) e s = not-both (rw (not-nil l h) at e) (stop _ (open-shut CN readCn image field l s))

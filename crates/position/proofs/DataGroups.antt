@@ -63,7 +63,7 @@ module _ (image : List ℕ) where
           onwards = rw one e₃;
         }))
 
-    pub data-group-opens : (left : ℕ) {ds : List FoundDataGroup} → dataGroupList (imageOf image) left gl cl field (toLink l) ≡ accepted ds → Shut ≡ blockOf l (opening DG (imageOf image) l) → ⊥
+    pub data-group-opens : (left : ℕ) {ds : List FoundDataGroup} → dataGroupList (imageOf image) left gl cl field (toLink l) ≡ accepted ds → {n : ℕ} → Shut n ≡ blockOf l (opening DG (imageOf image) l) → ⊥
     unfolding dataGroupList
     data-group-opens zero e s = not-both (rw (not-nil l h) at e) refl
     data-group-opens (suc left) e s = not-both (rw (not-nil l h) at e) (stop _ (open-shut DG readDg (imageOf image) field l s))

@@ -29,7 +29,7 @@ use Rattle.position.proofs.Bodies.{behind, field-bytes, field-zeros}
 module _ (image : List ℕ) where
   -- ---- the header
 
-  shut-gives : Shut ≡ blockOf 64 (opening HD (imageOf image) 64) → Gives (walk image) (λ _. ⊥)
+  shut-gives : {n : ℕ} → Shut n ≡ blockOf 64 (opening HD (imageOf image) 64) → Gives (walk image) (λ _. ⊥)
   unfolding walk fileFrom
   shut-gives s =
       bind _ (anything _) λ _ _.
@@ -84,7 +84,7 @@ module _ (image : List ℕ) where
   unfolding checkOutcome reads
   rejected-reading e = refused-of (walk image) e
 
-  pub header-opens : outcomeOf (accepted tt) ≡ checkOutcome image → Shut ≡ blockOf 64 (opening HD (imageOf image) 64) → ⊥
+  pub header-opens : outcomeOf (accepted tt) ≡ checkOutcome image → {n : ℕ} → Shut n ≡ blockOf 64 (opening HD (imageOf image) 64) → ⊥
   header-opens e s = let f = passed-file e in shut-gives s .given (f .0) (f .1)
 
   pub file-stands : outcomeOf (accepted tt) ≡ checkOutcome image → (hd : Span) → Stands HD (imageOf image) 64 hd → FileStands image hd

@@ -56,11 +56,11 @@ module _ (image : Image) where
         bind _ (self _) λ more e₃.
         gives _ (record { group = record { block = openedAs (readCg (image .version)) (image .bytes) b; comment = comment; channels = channels }; more = more; is = refl; block = refl; allowed = t; commentField = l + 12; comment = e₁; channelsLeft = cl; channelsField = l + 8; channels = e₂; left = left; less = omega arith; channelsBehind = _; field = l + 4; onwards = e₃ }))
 
-    shut-gives : (left cl : ℕ) → Shut ≡ blockOf l (opening CG image l) → Gives (groupList image (suc left) cl mode used field (some l)) (λ _. ⊥)
+    shut-gives : (left cl : ℕ) → {n : ℕ} → Shut n ≡ blockOf l (opening CG image l) → Gives (groupList image (suc left) cl mode used field (some l)) (λ _. ⊥)
     unfolding groupList
     shut-gives left cl s = bind _ (anything _) λ _ _. record { given = λ gs e. not-both e (stop _ (open-shut CG (readCg (image .version)) image field l s)) }
 
-    pub group-opens : (left cl : ℕ) {gs : List FoundGroup} → groupList image left cl mode used field (toLink l) ≡ accepted gs → Shut ≡ blockOf l (opening CG image l) → ⊥
+    pub group-opens : (left cl : ℕ) {gs : List FoundGroup} → groupList image left cl mode used field (toLink l) ≡ accepted gs → {n : ℕ} → Shut n ≡ blockOf l (opening CG image l) → ⊥
     unfolding groupList
     group-opens zero cl e s = not-both (rw (not-nil l h) at e) refl
     group-opens (suc left) cl e s = shut-gives left cl s .given _ (rw (not-nil l h) at e)
