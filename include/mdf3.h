@@ -39,9 +39,9 @@
 #include <stdint.h>
 #include <string.h>
 
-#define MDF3_VERSION "1.3.0"
+#define MDF3_VERSION "1.4.0"
 /* The same for #if: 10,000 for each major, 100 for each minor number. */
-#define MDF3_VERSION_NUMBER 10300
+#define MDF3_VERSION_NUMBER 10400
 
 #ifdef __cplusplus
 extern "C" {
@@ -51,8 +51,10 @@ extern "C" {
  * is an offset in the image except where another meaning is given. The first
  * fault in the order of section 5.2 of the rules (share/doc/mdf3/RULES.md)
  * decides, and there is never more than one; of two images the first one's
- * comes before the second's. Check gives 0 to 11, copy and compare 0 to 13, a
- * sample 0 to 11, 14 and 15, a physical value these and 16. */
+ * comes before the second's. Check gives 0 to 11 and 17 to 19; copy and compare
+ * these, 12 and 13; a sample those of check, 14 and 15, a physical value these
+ * and 16. Until version 1.3.0 5 stood for 17 to 19 too, and its name was
+ * MDF3_LINK. */
 
 /* Done. Place 0. */
 #define MDF3_OK 0
@@ -67,10 +69,11 @@ extern "C" {
 /* Byte order or float format is not 0, or the version is not 300 to 399: the
  * place of that field (24, 26, 28). */
 #define MDF3_IDENTIFICATION 4
-/* A link leads to no block of the kind wanted: it points outside, the
- * identifier is another, the size is too small for the kind, or the block runs
- * past the end. The place of the link field; 64 for the header block. */
-#define MDF3_LINK 5
+/* A block does not open, of the kind that a link leads to or of the header
+ * block at 64. With 5 its first 4 bytes, identifier and size, are not all in
+ * the image; 17, 18 and 19 below are tested behind it, in this order. With all
+ * four the place of the link field; 64 for the header block. */
+#define MDF3_BLOCK_HEAD 5
 /* Something that is not supported. A trigger, a channel dependency, or from
  * version 330 on a sample reduction: the place of that link field. A conversion
  * of formula 12: the place of its formula field. */
@@ -122,6 +125,15 @@ extern "C" {
  * parameters) nor one to one (65535); or the number, a parameter or the result
  * is infinite or no number. */
 #define MDF3_NO_PHYSICAL 16
+/* A block does not open: it has another identifier than its kind. The place
+ * as with 5. */
+#define MDF3_BLOCK_IDENTIFIER 17
+/* A block does not open: its size is below the least of its kind. The place as
+ * with 5. */
+#define MDF3_BLOCK_SIZE 18
+/* A block does not open: it runs past the end of the image. The place as with
+ * 5. */
+#define MDF3_BLOCK_END 19
 
 /* The answer: four numbers of 64 bits, lowest byte first.
  *
@@ -174,12 +186,13 @@ static inline double mdf3_double(const uint8_t answer[MDF3_ANSWER_SIZE])
     return value;
 }
 
-/* Whether the image is accepted: returns 0, or 1 to 11. The answer holds the
- * place; value, length and kind are 0. */
+/* Whether the image is accepted: returns 0, 1 to 11 or 17 to 19. The answer
+ * holds the place; value, length and kind are 0. */
 uint32_t mdf3_check(const uint8_t *image, size_t image_len, uint8_t answer[MDF3_ANSWER_SIZE]);
 
 /* Writes the canonical copy of the image to out, which has room for out_len
- * bytes: returns 0, or 1 to 13. The image need not have been checked before.
+ * bytes: returns 0, 1 to 13 or 17 to 19. The image need not have been checked
+ * before.
  *
  * Done: the copy stands at the start of out, what lies behind it there is
  * left as it was, and the value is the copy's length. Refused: no byte of
@@ -275,7 +288,8 @@ static inline uint32_t mdf3_entry_byte(const uint8_t entry[MDF3_ENTRY_SIZE])
 }
 
 /* Writes the difference list of two images to out, which has room for out_len
- * bytes: returns 0, or 1 to 13. Neither image need have been checked before.
+ * bytes: returns 0, 1 to 13 or 17 to 19. Neither image need have been checked
+ * before.
  *
  * Done: the list stands at the start of out, what lies behind it there is left
  * as it was, and the value is its length, 16 for each entry. It is 0 exactly
@@ -292,10 +306,11 @@ static inline uint32_t mdf3_entry_byte(const uint8_t entry[MDF3_ENTRY_SIZE])
  *
  * MDF3_OK: they say the same. MDF3_NO_ROOM: they differ, and the place is the
  * length of the list. MDF3_COPY_TOO_LONG: they differ too, in more than
- * 134,217,727 items. Any other number refuses one of the images; 1 to 11 for
- * the first come before 1 to 11 for the second. Which one it was is not told:
- * it was the first where mdf3_check of it alone gives another number than 0,
- * and else the second. Number and place are those that mdf3_check gives.
+ * 134,217,727 items. Any other number, 1 to 11 or 17 to 19, refuses one of the
+ * images; that of the first comes before that of the second. Which one it was
+ * is not told: it was the first where mdf3_check of it alone gives another
+ * number than 0, and else the second. Number and place are those that
+ * mdf3_check gives.
  *
  * In which of the two a lone item is, is not told either: in the one that has
  * more groups, more channels in the group, or more records in it.
@@ -310,10 +325,10 @@ uint32_t mdf3_compare(const uint8_t *first, size_t first_len, const uint8_t *sec
 #define MDF3_DOUBLE 4
 #define MDF3_PART 5
 
-/* The sample of a channel in a record, as it is stored: returns 0, or 1 to 11,
- * 14 or 15. Channel groups, channels of a group and records of a group are
- * counted from 0, the groups over all data groups in the order of the links;
- * any numbers may be given. The image need not have been checked before.
+/* The sample of a channel in a record, as it is stored: returns 0, 1 to 11, 14,
+ * 15 or 17 to 19. Channel groups, channels of a group and records of a group
+ * are counted from 0, the groups over all data groups in the order of the
+ * links; any numbers may be given. The image need not have been checked before.
  *
  * Done: the kind is one of those above. The value is, for an unsigned number,
  * the number; for a signed one, its two's complement in 64 bits; for a 32-bit
@@ -326,7 +341,7 @@ uint32_t mdf3_compare(const uint8_t *first, size_t first_len, const uint8_t *sec
 uint32_t mdf3_sample(const uint8_t *image, size_t image_len, uint64_t group, uint64_t channel, uint64_t record,
                      uint8_t answer[MDF3_ANSWER_SIZE]);
 
-/* Its physical value: returns 0, or 1 to 11 and 14 to 16, with numbers as for
+/* Its physical value: returns 0, 1 to 11 or 14 to 19, with numbers as for
  * mdf3_sample.
  *
  * Done: the kind is MDF3_DOUBLE and the value holds the bits of a 64-bit float,

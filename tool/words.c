@@ -14,6 +14,25 @@ static const char *of_ident(uint64_t place)
     }
 }
 
+/* Why a block does not open. The header block has no link; a link field may stand at its place too, where blocks overlap. */
+static const char *of_block(uint32_t number, uint64_t place)
+{
+    static const char *const behind_link[4] = {
+        "the link at this place leads past the end of the file or to its last three bytes",
+        "the link at this place leads to a block with another identifier than its kind has",
+        "the link at this place leads to a block that is too small for its kind",
+        "the link at this place leads to a block that runs past the end of the file",
+    };
+    static const char *const at_header[4] = {
+        "the file ends at its header block, or the link at this place leads past its end or to its last three bytes",
+        "the header block, or the block that the link at this place leads to, has another identifier than its kind has",
+        "the header block, or the block that the link at this place leads to, is too small for its kind",
+        "the header block, or the block that the link at this place leads to, runs past the end of the file",
+    };
+    uint32_t fault = number == MDF3_BLOCK_HEAD ? 0 : number - MDF3_BLOCK_IDENTIFIER + 1;
+    return place == 64 ? at_header[fault] : behind_link[fault];
+}
+
 const char *in_words(uint32_t number, uint64_t place)
 {
     static const char *const words[17] = {
@@ -22,7 +41,7 @@ const char *in_words(uint32_t number, uint64_t place)
         "no MDF 3 file: shorter than 64 bytes, or another identifier",
         "not finalized by its logger",
         "",
-        "the link at this place leads to no block of its kind",
+        "",
         "a trigger, channel dependency, text range conversion or, from version 3.30 on, sample reduction at this place: "
         "not supported",
         "the link at this place leads to one data group, channel group or channel too many",
@@ -38,9 +57,8 @@ const char *in_words(uint32_t number, uint64_t place)
     };
     if (number == MDF3_IDENTIFICATION)
         return of_ident(place);
-    /* the header block has no link; a link field may stand there too, where blocks overlap */
-    if (number == MDF3_LINK && place == 64)
-        return "no header block, or the link at this place leads to no block of its kind";
+    if (number == MDF3_BLOCK_HEAD || (number >= MDF3_BLOCK_IDENTIFIER && number <= MDF3_BLOCK_END))
+        return of_block(number, place);
     return number < 17 ? words[number] : "unknown";
 }
 

@@ -98,7 +98,7 @@ fn lengths(long: &mut Long<'_>) {
     long.try_at("unfinalized", &unfinished.bytes, LONGEST + 1, (1, 0));
     let mut broken = sheet;
     broken.put(64, b"ZZ");
-    long.try_at("broken header", &broken.bytes, LONGEST, (5, 64));
+    long.try_at("broken header", &broken.bytes, LONGEST, (17, 64));
     long.try_at("broken header", &broken.bytes, LONGEST + 1, (1, 0));
 }
 
@@ -122,7 +122,7 @@ fn last_bytes(long: &mut Long<'_>) {
     long.try_at("comment at the end", &sheet.bytes, LONGEST, (0, 0));
     long.try_at("comment at the end, cut", &sheet.bytes, LONGEST - 1, (5, 72));
     long.bytes[LONGEST - 2] = 5;
-    long.try_at("comment beyond the end", &sheet.bytes, LONGEST, (5, 72));
+    long.try_at("comment beyond the end", &sheet.bytes, LONGEST, (19, 72));
     long.bytes[LONGEST - 4..LONGEST].fill(0);
 }
 
@@ -197,8 +197,8 @@ fn long_pairs(long: &mut Long<'_>) {
         (small, longer, 1, 0),
         (longer, longer, 1, 0),
         (longer, broken, 1, 0),
-        (broken, longer, 5, 64),
-        (longest, broken, 5, 64),
+        (broken, longer, 17, 64),
+        (longest, broken, 17, 64),
     ] {
         let told = told_list(first, second, (number, place), &mut long.output, long.tally);
         compared = compared.and(told);

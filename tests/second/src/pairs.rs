@@ -125,7 +125,7 @@ fn written(
                 length = place as usize;
             }
             Ok(Answer { number: 0, place: 0, value }) if value == length as u64 => break,
-            Ok(Answer { number: 1..=11, value: 0, .. }) if length == 0 => return Ok(None),
+            Ok(Answer { number: 1..=11 | 17..=19, value: 0, .. }) if length == 0 => return Ok(None),
             _ => return trouble(format!("room {length}: {}", shown(&answer))),
         }
     }

@@ -4,7 +4,7 @@ use second::differences::Entry;
 use second::mdf::Refusal;
 use second::sample::{Answer, Call};
 
-const NUMBERS: usize = 17;
+const NUMBERS: usize = 20;
 const KINDS: usize = 6;
 
 #[derive(Clone, Copy, Default)]

@@ -541,8 +541,10 @@ fn refusals(book: &mut Book) {
         (with(0, b"UnFinMF "), refusal(3, 0)),
         (with(24, &[1]), refusal(4, 24)),
         (with(28, &[0, 0]), refusal(4, 28)),
-        (with(64, b"ZZ"), refusal(5, 64)),
-        (with(72, &[1, 0, 0, 0]), refusal(5, 72)),
+        (with(64, b"ZZ"), refusal(17, 64)),
+        (with(66, &[163, 0]), refusal(18, 64)),
+        (with(66, &[255; 2]), refusal(19, 64)),
+        (with(72, &[1, 0, 0, 0]), refusal(17, 72)),
         (with(68, &[255; 4]), refusal(5, 68)),
     ];
     for (n, (one, first)) in bad.iter().enumerate() {

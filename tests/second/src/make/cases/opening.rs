@@ -48,6 +48,15 @@ fn with_last(sheet: &Sheet, field: Field, size: usize) -> Sheet {
     sheet
 }
 
+/// The number for a block of which the image has so many bytes, and no more.
+fn cut_to(kept: usize) -> u32 {
+    if kept < 4 {
+        5
+    } else {
+        19
+    }
+}
+
 /// The image ends within or right after the block.
 fn at_the_end(book: &mut Book, sheet: &Sheet, field: Field) {
     let (label, at, kind) = field;
@@ -57,17 +66,17 @@ fn at_the_end(book: &mut Book, sheet: &Sheet, field: Field) {
     book.accept(format!("{label}: least size at the image end"), &whole.bytes);
     for kept in 0..size.min(8) {
         let name = format!("{label}: only {kept} bytes in the image");
-        book.expect(name, &whole.bytes[..begin + kept], 5, at);
+        book.expect(name, &whole.bytes[..begin + kept], cut_to(kept), at);
     }
     book.expect(
         format!("{label}: last byte missing"),
         &whole.bytes[..whole.len() - 1],
-        5,
+        cut_to(size - 1),
         at,
     );
     let mut longer = whole.clone();
     longer.put16(begin + 2, size as u16 + 1);
-    book.expect(format!("{label}: ends one byte too late"), &longer.bytes, 5, at);
+    book.expect(format!("{label}: ends one byte too late"), &longer.bytes, 19, at);
     longer.append(&[0]);
     book.accept(format!("{label}: one byte above least"), &longer.bytes);
     let mut odd = sheet.clone();
@@ -88,7 +97,9 @@ fn sizes(book: &mut Book, sheet: &Sheet, field: Field) {
             let mut image = roomy.clone();
             image.put16(begin + 2, value as u16);
             let name = format!("{label}: size {value} below {size}");
-            book.expect(name, &image.bytes, 5, at);
+            book.expect(name, &image.bytes, 18, at);
+            let name = format!("{label}: size {value} below {size}, the head alone");
+            book.expect(name, &image.bytes[..begin + 4], 18, at);
         }
     }
     for value in [size, size + 1, size + 50, size + 400] {
@@ -100,13 +111,13 @@ fn sizes(book: &mut Book, sheet: &Sheet, field: Field) {
         let mut image = roomy.clone();
         image.put16(begin + 2, value as u16);
         let name = format!("{label}: size {value} beyond the end");
-        book.expect(name, &image.bytes, 5, at);
+        book.expect(name, &image.bytes, 19, at);
     }
     let mut largest = with_last(sheet, field, 65535);
     book.accept(format!("{label}: size 65535 at the end"), &largest.bytes);
     largest.bytes.pop();
     let name = format!("{label}: size 65535, one byte missing");
-    book.expect(name, &largest.bytes, 5, at);
+    book.expect(name, &largest.bytes, 19, at);
 }
 
 /// Wrong identifiers.
@@ -134,7 +145,16 @@ fn names(book: &mut Book, sheet: &Sheet, field: Field) {
         if name != *kind {
             let mut image = whole.clone();
             image.put(begin, &name);
-            book.expect(format!("{label}: named {name:?}"), &image.bytes, 5, at);
+            book.expect(format!("{label}: named {name:?}"), &image.bytes, 17, at);
+            for size in [0, 3, 301, 0xFFFF] {
+                image.put16(begin + 2, size);
+                let name = format!("{label}: named {name:?}, size {size}");
+                book.expect(name, &image.bytes, 17, at);
+            }
+            let head = format!("{label}: named {name:?}, the head alone");
+            book.expect(head, &image.bytes[..begin + 4], 17, at);
+            let part = format!("{label}: named {name:?}, three bytes of the head");
+            book.expect(part, &image.bytes[..begin + 3], 5, at);
         }
     }
 }
@@ -143,13 +163,12 @@ fn names(book: &mut Book, sheet: &Sheet, field: Field) {
 fn far_links(book: &mut Book, sheet: &Sheet, field: Field) {
     let (label, at, _) = field;
     let end = sheet.len() as u32;
+    for link in [1, 2, 63, 64, 65, end - 4] {
+        let mut image = sheet.clone();
+        image.put32(at, link);
+        book.expect(format!("{label}: link {link:#x}"), &image.bytes, 17, at);
+    }
     let places = [
-        1,
-        2,
-        63,
-        64,
-        65,
-        end - 4,
         end - 3,
         end - 1,
         end,
@@ -184,7 +203,7 @@ fn inside_others(book: &mut Book) {
     sheet.put32(72, 60);
     book.accept("comment from the identification to the end", &sheet.bytes);
     sheet.put(60, b"TX\xA9\x00");
-    book.expect("comment from the identification beyond", &sheet.bytes, 5, 72);
+    book.expect("comment from the identification beyond", &sheet.bytes, 19, 72);
     let mut sheet = Sheet::new(300, 164);
     sheet.put(100, b"DG\x18\x00");
     sheet.put32(68, 100);

@@ -37,12 +37,14 @@ impl Faults {
         self.bytes(name, at, &value.to_le_bytes(), number, at);
     }
 
-    /// A link that leads nowhere, a wrong identifier and a small size.
+    /// A link that leads nowhere, a wrong identifier, a size that is too
+    /// small and one that is too large.
     fn block(&mut self, name: &str, field: usize, block: usize, too_small: u16) {
         self.link(&format!("{name} link"), field, FAR, 5);
-        self.bytes(&format!("{name} identifier"), block, b"ZZ", 5, field);
+        self.bytes(&format!("{name} identifier"), block, b"ZZ", 17, field);
         let size = too_small.to_le_bytes();
-        self.bytes(&format!("{name} size"), block + 2, &size, 5, field);
+        self.bytes(&format!("{name} size"), block + 2, &size, 18, field);
+        self.bytes(&format!("{name} end"), block + 2, &[0xFF; 2], 19, field);
     }
 }
 
@@ -115,8 +117,9 @@ fn listed(file: &Full) -> Vec<Fault> {
     faults.word("byte order", 24, 1, 4);
     faults.word("float format", 26, 1, 4);
     faults.word("version", 28, 400, 4);
-    faults.bytes("HD identifier", 64, b"ZZ", 5, 64);
-    faults.bytes("HD size", 66, &[163, 0], 5, 64);
+    faults.bytes("HD identifier", 64, b"ZZ", 17, 64);
+    faults.bytes("HD size", 66, &[163, 0], 18, 64);
+    faults.bytes("HD end", 66, &[0xFF; 2], 19, 64);
     faults.link("file comment link", 72, FAR, 5);
     faults.link("program link", 76, FAR, 5);
     data_group(&mut faults, 68, file.dg[0]);

@@ -17,8 +17,12 @@ fn lengths(book: &mut Book) {
     for length in [0, 1, 3, 4, 8, 28, 30, 62, 63] {
         book.expect(format!("image of {length} bytes"), &whole[..length], 2, 0);
     }
-    for length in [64, 65, 66, 67, 68, 72, 226, 227] {
-        book.expect(format!("image of {length} bytes, header cut"), &whole[..length], 5, 64);
+    for length in [64, 65, 66, 67] {
+        let name = format!("image of {length} bytes, the header's head cut");
+        book.expect(name, &whole[..length], 5, 64);
+    }
+    for length in [68, 72, 226, 227] {
+        book.expect(format!("image of {length} bytes, header cut"), &whole[..length], 19, 64);
     }
     let mut unfinished = whole.clone();
     unfinished[..8].copy_from_slice(b"UnFinMF ");
@@ -90,13 +94,20 @@ fn header(book: &mut Book) {
         if kind != *b"HD" {
             let mut sheet = whole.clone();
             sheet.put(64, &kind);
-            book.expect(format!("header named {kind:?}"), &sheet.bytes, 5, 64);
+            book.expect(format!("header named {kind:?}"), &sheet.bytes, 17, 64);
         }
     }
     for name in [b"hd", b"DH", b"H\0", b"\0D", b"HH", b"DD"] {
         let mut sheet = whole.clone();
         sheet.put(64, name);
-        book.expect(format!("header named {name:?}"), &sheet.bytes, 5, 64);
+        book.expect(format!("header named {name:?}"), &sheet.bytes, 17, 64);
+        for size in [0, 3, 163, 165, 0xFFFF] {
+            sheet.put16(66, size);
+            let name = format!("header named {name:?} says {size}");
+            book.expect(name, &sheet.bytes, 17, 64);
+        }
+        sheet.bytes.truncate(67);
+        book.expect(format!("header named {name:?}, three bytes"), &sheet.bytes, 5, 64);
     }
     let mut idle = whole.clone();
     idle.put16(80, 65535);
@@ -111,19 +122,21 @@ fn header_sizes(book: &mut Book) {
             let name = format!("version {version}, header of {size}");
             book.accept(&*name, &sheet.bytes);
             sheet.bytes.pop();
-            book.expect(format!("{name}, last byte missing"), &sheet.bytes, 5, 64);
+            book.expect(format!("{name}, last byte missing"), &sheet.bytes, 19, 64);
         }
         for size in [0, 1, 3, 4, 100, 162, 163] {
             let mut sheet = Sheet::new(version, 208);
             sheet.put16(66, size);
             let name = format!("version {version}, header says {size}");
-            book.expect(name, &sheet.bytes, 5, 64);
+            book.expect(&*name, &sheet.bytes, 18, 64);
+            sheet.bytes.truncate(68);
+            book.expect(format!("{name}, its head alone"), &sheet.bytes, 18, 64);
         }
         for size in [209, 256, 420, 0xFFFF] {
             let mut sheet = Sheet::new(version, 208);
             sheet.put16(66, size);
             let name = format!("version {version}, header says {size} of 208");
-            book.expect(name, &sheet.bytes, 5, 64);
+            book.expect(name, &sheet.bytes, 19, 64);
         }
     }
 }
