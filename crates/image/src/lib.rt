@@ -68,6 +68,18 @@ pub enum Block {
     Shut(u32),
 }
 
+// Why a block does not open.
+impl Block {
+    // Its head is not in the image.
+    const HEAD: u32 = 5;
+    // Its identifier is another.
+    const IDENTIFIER: u32 = 17;
+    // Its size is below the least.
+    const SIZE: u32 = 18;
+    // It ends beyond the image.
+    const END: u32 = 19;
+}
+
 // The number of the refusal of a block that is shut; 0 of one that is open.
 pub fn fault(b: Block) -> u32
     ensures { λ r. ⌜ r ≡ faultOf b ⌝ }
@@ -79,28 +91,27 @@ pub fn fault(b: Block) -> u32
 }
 
 // The block at a place, where it opens: its identifier as a number of two bytes, its least size.
-// Else 5 where its head is not in the image, 17 for the identifier, 18 for the size, 19 for its end.
 fn open_block(image: &[u8], at: usize, id: u64, least: usize) -> Block
     ensures { λ r. ⌜ r ≡ blockOf at (opening (kindOf id least) (imageOf (now (image .entry))) at) ⌝ }
 {
     if image.len() < 4 {
-        return Block::Shut(5);
+        return Block::Shut(Block::HEAD);
     }
     if image.len() - 4 < at {
-        return Block::Shut(5);
+        return Block::Shut(Block::HEAD);
     }
     if byte(image, at) != id % 256 {
-        return Block::Shut(17);
+        return Block::Shut(Block::IDENTIFIER);
     }
     if byte(image, at + 1) != id / 256 {
-        return Block::Shut(17);
+        return Block::Shut(Block::IDENTIFIER);
     }
     let size = number(image, at + 2, 2) as usize;
     if size < least {
-        return Block::Shut(18);
+        return Block::Shut(Block::SIZE);
     }
     if image.len() - at < size {
-        return Block::Shut(19);
+        return Block::Shut(Block::END);
     }
     Block::Open(Span { at, size })
 }

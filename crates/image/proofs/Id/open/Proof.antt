@@ -20,14 +20,20 @@ named-requires-2 c κs = search needs
 
 returns-3 : tie.Need-returns-3
 returns-3 c =
-    ident-unfinished (now (c .before .before .before .before .before .before .args .image)) (c .before .before .before .before .if1 .left)
-    (sym (c .before .before .before .named .ensures) ∙ c .before .before .if2 .left)
+    let at-named = c .before .before .before in
+    let at-if1 = at-named .before in
+    let start = at-if1 .before .before in
+    ident-unfinished (now (start .args .image)) (at-if1 .if1 .left)
+    (sym (at-named .named .ensures) ∙ c .before .before .if2 .left)
     (sym (c .before .named2 .ensures) ∙ c .if3 .taken)
 
 returns-4 : tie.Need-returns-4
 returns-4 c =
-    ident-other (now (c .before .before .before .before .before .before .args .image)) (c .before .before .before .before .if1 .left)
-    (sym (c .before .before .before .named .ensures) ∙ c .before .before .if2 .left)
+    let at-named = c .before .before .before in
+    let at-if1 = at-named .before in
+    let start = at-if1 .before .before in
+    ident-other (now (start .args .image)) (at-if1 .if1 .left)
+    (sym (at-named .named .ensures) ∙ c .before .before .if2 .left)
     (sym (c .before .named2 .ensures) ∙ c .if3 .left)
 
 pub open-spec : {M : Type 1} → statement M
