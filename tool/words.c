@@ -17,20 +17,23 @@ static const char *of_ident(uint64_t place)
 /* Why a block does not open. The header block has no link; a link field may stand at its place too, where blocks overlap. */
 static const char *of_block(uint32_t number, uint64_t place)
 {
-    static const char *const behind_link[4] = {
-        "the link at this place leads past the end of the file or to its last three bytes",
-        "the link at this place leads to a block with another identifier than its kind has",
-        "the link at this place leads to a block that is too small for its kind",
-        "the link at this place leads to a block that runs past the end of the file",
+    static const char *const behind_link[] = {
+        [MDF3_BLOCK_HEAD] = "the link at this place leads past the end of the file or to its last three bytes",
+        [MDF3_BLOCK_IDENTIFIER] = "the link at this place leads to a block with another identifier than its kind has",
+        [MDF3_BLOCK_SIZE] = "the link at this place leads to a block that is too small for its kind",
+        [MDF3_BLOCK_END] = "the link at this place leads to a block that runs past the end of the file",
     };
-    static const char *const at_header[4] = {
-        "the file ends at its header block, or the link at this place leads past its end or to its last three bytes",
-        "the header block, or the block that the link at this place leads to, has another identifier than its kind has",
-        "the header block, or the block that the link at this place leads to, is too small for its kind",
-        "the header block, or the block that the link at this place leads to, runs past the end of the file",
+    static const char *const at_header[] = {
+        [MDF3_BLOCK_HEAD] =
+            "the file ends at its header block, or the link at this place leads past its end or to its last three bytes",
+        [MDF3_BLOCK_IDENTIFIER] =
+            "the header block, or the block that the link at this place leads to, has another identifier than its kind has",
+        [MDF3_BLOCK_SIZE] =
+            "the header block, or the block that the link at this place leads to, is too small for its kind",
+        [MDF3_BLOCK_END] =
+            "the header block, or the block that the link at this place leads to, runs past the end of the file",
     };
-    uint32_t fault = number == MDF3_BLOCK_HEAD ? 0 : number - MDF3_BLOCK_IDENTIFIER + 1;
-    return place == 64 ? at_header[fault] : behind_link[fault];
+    return place == 64 ? at_header[number] : behind_link[number];
 }
 
 const char *in_words(uint32_t number, uint64_t place)

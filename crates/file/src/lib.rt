@@ -1,4 +1,4 @@
-// The data groups of a file, and the check of a whole image: refusals 1 to 11.
+// The data groups of a file, and the check of a whole image: refusals 1 to 11 and 17 to 19.
 use image::Block;
 use image::Dg;
 use image::Hd;
@@ -146,7 +146,7 @@ fn header(image: &[u8]) -> Verdict
     data_groups(image, Cursor::new(68, image::u32_in(image, hd, 4)))
 }
 
-// Whether an image is accepted; if not, the first refusal of 1 to 11 with its place.
+// Whether an image is accepted; if not, the first refusal of 1 to 11 and 17 to 19 with its place.
 pub fn check(image: &[u8]) -> Verdict
     ensures { λ r. ⌜ outcome r ≡ checkOutcome (now (image .entry)) ⌝ }
 {

@@ -96,7 +96,8 @@ imageOf bytes = record { bytes = bytes; version = versionOf (take ID-size bytes)
 abbrev pub sizeAt : Image → ℕ → ℕ
 sizeAt image p = number (take 2 (drop 2 (drop p (image .bytes))))
 
--- all bytes of the block of this kind at p. A refusal has place 0 here; `openBlock` sets the link field
+-- all bytes of the block of this kind at p. Else 5 for its head, 17 for its identifier, 18 for its size, 19 for its end (document 02, CR 3)
+-- A refusal has place 0 here; `openBlock` sets the link field
 unfoldable pub opening : Kind → Image → ℕ → Answer (List ℕ)
 opening k image p = do
   _ ← require (leb (p + head-size) (length (image .bytes))) 5 0

@@ -27,7 +27,7 @@ abbrev pub outcomeOf : {A : Type 0} → Answer A → Outcome A
 outcomeOf (refused n p) = record { number = n; place = p; value = none }
 outcomeOf (accepted a) = record { number = 0; place = 0; value = some a }
 
--- ---- check: 1 to 11
+-- ---- check: 1 to 11 and 17 to 19
 
 unfoldable pub checkOutcome : List ℕ → Outcome (Unit {0})
 checkOutcome image = outcomeOf (passed (walk image))
