@@ -36,6 +36,13 @@ same-equal (x ∷ xs) (y ∷ ys) e =
     let q = same-equal xs ys (h .1) in
     cc
 
+pub same-not : (xs ys : List ℕ) → (xs ≡ ys → ⊥) → sameBytes xs ys ≡ false
+same-not xs ys d = go (sameBytes xs ys) refl
+  where
+    go : (t : Bool) → sameBytes xs ys ≡ t → sameBytes xs ys ≡ false
+    go true e = absurd (d (same-equal xs ys e))
+    go false e = e
+
 pub same-turned : (xs ys : List ℕ) → sameBytes xs ys ≡ sameBytes ys xs
 same-turned [] [] = refl
 same-turned [] (y ∷ ys) = refl

@@ -1,17 +1,16 @@
 -- The proofs of specs/Numbers.antt: an answer whose refusals are all among some numbers, step by step.
 -- Assumes nothing.
 use Prim.Native.Nat.{ℕ, zero, suc, _+_, _-_}
-use mathlib.Core.Path.{_≡_, refl, sym, _∙_, ap}
+use mathlib.Core.Path.{_≡_, refl}
 use mathlib.Core.Logic.{⊎-elim}
-use mathlib.Core.Bool.{Bool, true, false, cond, not, _&&_, _||_}
-use mathlib.Core.List.{List, [], _∷_, map}
+use mathlib.Core.Bool.{Bool, true, false, cond, _||_}
+use mathlib.Core.List.{List, [], _∷_}
 use mathlib.Core.Option.{Option, none, some}
-use native.Mathlib.Omega.{arith}
-use lib.Dec.{leb, ltb, eqb}
-use lib.ListN.{length, take, getD}
+use lib.Dec.{ltb, eqb}
+use lib.ListN.{length, getD}
 use lib.Ieee.{Float}
 use Rattle.spec.specs.Answer.{Answer, refused, accepted, _>>=_, require, present, mapAnswer, passed, atPlace}
-use Rattle.spec.specs.Block.{Kind, Image, imageOf, Opened, opening, openBlock, openAs, bodyAt, formula, Fields, CnBlock}
+use Rattle.spec.specs.Block.{Kind, Image, Opened, opening, openBlock, openAs, bodyAt, formula, Fields, CnBlock}
 use Rattle.spec.specs.Reading.{Body, Reading}
 use Rattle.spec.specs.Records.{Slot, Logged, recordsDue, times, sizeDue, inOrder, byID, logFrom, logOf}
 use Rattle.spec.specs.Found.{FoundBody}

@@ -1,12 +1,10 @@
 -- The proofs of specs/Opening.antt.
 -- Assumes nothing.
-use Prim.Native.Nat.{ℕ, _+_, _≤_, _<_}
+use Prim.Native.Nat.{ℕ, _+_}
 use mathlib.Core.Path.{_≡_, refl, _∙_, ap}
 use mathlib.Core.Logic.{_⊎_, inl, inr, ⊎-elim}
 use mathlib.Core.Bool.{Bool, true, false}
-use mathlib.Core.List.{List, [], _∷_}
-use mathlib.Core.Option.{some}
-use native.Mathlib.Omega.{arith}
+use mathlib.Core.List.{List}
 use lib.Dec.{leb}
 use lib.ListN.{length, take, drop}
 use borrow.Author.Tests.{le-leb, lt-leb}
@@ -15,7 +13,7 @@ use Rattle.spec.specs.Answer.{Answer, refused, accepted, _>>=_, require,
 use Rattle.spec.specs.Block.{Kind, identifier, Image, sizeAt, opening, openBlock, openAs, bodyOf, bodyAt}
 use Rattle.spec.specs.Opening.{HeadInside, Named, HeadNotInside, OtherIdentifier, SizeBelowLeast, EndBeyondImage, BlockInside, OneOfFour, NoOtherFault, FaultIsPassedOn, NothingElseIsPassedOn}
 use Rattle.spec.proofs.Answers.{step, pass, stop, fail, not-both}
-use Rattle.spec.proofs.Bytes.{same-refl, same-equal}
+use Rattle.spec.proofs.Bytes.{same-refl, same-not}
 
 -- ---- at which test it stops
 
@@ -23,16 +21,9 @@ pub head-not-inside : HeadNotInside
 unfolding opening
 head-not-inside k image p h = stop _ (fail _ _ _ (lt-leb _ _ h))
 
-differ : (xs ys : List ℕ) → (xs ≡ ys → ⊥) → sameBytes xs ys ≡ false
-differ xs ys d = go (sameBytes xs ys) refl
-  where
-    go : (t : Bool) → sameBytes xs ys ≡ t → sameBytes xs ys ≡ false
-    go true e = absurd (d (same-equal xs ys e))
-    go false e = e
-
 pub other-identifier : OtherIdentifier
 unfolding opening
-other-identifier k image p h d = step _ (pass _ _ _ (le-leb _ _ h)) (stop _ (fail _ _ _ (differ _ _ d)))
+other-identifier k image p h d = step _ (pass _ _ _ (le-leb _ _ h)) (stop _ (fail _ _ _ (same-not _ _ d)))
 
 module _ (k : Kind) (image : Image) (p : ℕ) (h : HeadInside image p) (i : Named k image p) where
   -- the two tests of the head pass

@@ -1,5 +1,4 @@
 use Rattle.image.proofs.Ident.{ident-short, ident-named, ident-unfinished, ident-other}
-use borrow.Author.Tests.{not-true, not-false}
 use denote.Ref.{now}
 use mathlib.Core.Path.{sym, _∙_}
 use borrow.Author.Needs.{needs}
