@@ -53,8 +53,8 @@ extern "C" {
  * decides, and there is never more than one; of two images the first one's
  * comes before the second's. Check gives 0 to 11 and 17 to 19; copy and compare
  * these, 12 and 13; a sample those of check, 14 and 15, a physical value these
- * and 16. Until version 1.3.0 5 stood for 17 to 19 too, and its name was
- * MDF3_LINK. */
+ * and 16. Up to version 1.3.0 the number 5 stood for 17 to 19 too, under the
+ * name MDF3_LINK. */
 
 /* Done. Place 0. */
 #define MDF3_OK 0
@@ -69,10 +69,10 @@ extern "C" {
 /* Byte order or float format is not 0, or the version is not 300 to 399: the
  * place of that field (24, 26, 28). */
 #define MDF3_IDENTIFICATION 4
-/* A block does not open, of the kind that a link leads to or of the header
- * block at 64. With 5 its first 4 bytes, identifier and size, are not all in
- * the image; 17, 18 and 19 below are tested behind it, in this order. With all
- * four the place of the link field; 64 for the header block. */
+/* A block does not open: the one that a link leads to, or the header block at
+ * 64. With 5 its first 4 bytes, identifier and size, are not all in the image.
+ * 17, 18 and 19 below are tested after that, in this order. The place of all
+ * four is that of the link field; 64 for the header block. */
 #define MDF3_BLOCK_HEAD 5
 /* Something that is not supported. A trigger, a channel dependency, or from
  * version 330 on a sample reduction: the place of that link field. A conversion
@@ -125,14 +125,14 @@ extern "C" {
  * parameters) nor one to one (65535); or the number, a parameter or the result
  * is infinite or no number. */
 #define MDF3_NO_PHYSICAL 16
-/* A block does not open: it has another identifier than its kind. The place
- * as with 5. */
+/* A block does not open: another identifier than that of the kind wanted stands
+ * there. The place as with 5. */
 #define MDF3_BLOCK_IDENTIFIER 17
 /* A block does not open: its size is below the least of its kind. The place as
  * with 5. */
 #define MDF3_BLOCK_SIZE 18
-/* A block does not open: it runs past the end of the image. The place as with
- * 5. */
+/* A block does not open: it ends beyond the end of the image. The place as
+ * with 5. */
 #define MDF3_BLOCK_END 19
 
 /* The answer: four numbers of 64 bits, lowest byte first.

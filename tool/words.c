@@ -19,19 +19,21 @@ static const char *of_block(uint32_t number, uint64_t place)
 {
     static const char *const behind_link[] = {
         [MDF3_BLOCK_HEAD] = "the link at this place leads past the end of the file or to its last three bytes",
-        [MDF3_BLOCK_IDENTIFIER] = "the link at this place leads to a block with another identifier than its kind has",
+        [MDF3_BLOCK_IDENTIFIER] = "the link at this place leads to another identifier than that of the block wanted there",
         [MDF3_BLOCK_SIZE] = "the link at this place leads to a block that is too small for its kind",
-        [MDF3_BLOCK_END] = "the link at this place leads to a block that runs past the end of the file",
+        [MDF3_BLOCK_END] = "the link at this place leads to a block that ends beyond the end of the file",
     };
     static const char *const at_header[] = {
         [MDF3_BLOCK_HEAD] =
-            "the file ends at its header block, or the link at this place leads past its end or to its last three bytes",
+            "the file ends before or within the first 4 bytes of its header block, or the link at this place leads past the "
+            "end of the file or to its last three bytes",
         [MDF3_BLOCK_IDENTIFIER] =
-            "the header block, or the block that the link at this place leads to, has another identifier than its kind has",
+            "the header block has another identifier, or the link at this place leads to another than that of the block "
+            "wanted there",
         [MDF3_BLOCK_SIZE] =
             "the header block, or the block that the link at this place leads to, is too small for its kind",
         [MDF3_BLOCK_END] =
-            "the header block, or the block that the link at this place leads to, runs past the end of the file",
+            "the header block, or the block that the link at this place leads to, ends beyond the end of the file",
     };
     return place == 64 ? at_header[number] : behind_link[number];
 }

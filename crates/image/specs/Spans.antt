@@ -27,7 +27,7 @@ abbrev pub blockOf : ℕ → Answer (List ℕ) → Block
 blockOf at (refused n p) = Shut n
 blockOf at (accepted block) = Open (record { at = at; size = length block })
 
--- the number of the refusal of a block that is shut
+-- the number of the refusal of a block that is shut; 0 of one that is open
 abbrev pub faultOf : Block → ℕ
 faultOf (Open b) = 0
 faultOf (Shut n) = n

@@ -70,7 +70,7 @@ pub enum Block {
 
 // Why a block does not open.
 impl Block {
-    // Its head is not in the image.
+    // Its head is not wholly in the image.
     const HEAD: u32 = 5;
     // Its identifier is another.
     const IDENTIFIER: u32 = 17;
@@ -90,7 +90,7 @@ pub fn fault(b: Block) -> u32
     }
 }
 
-// The block at a place, where it opens: its identifier as a number of two bytes, its least size.
+// The block at a place, or why it does not open: its identifier as a number of two bytes, its least size.
 fn open_block(image: &[u8], at: usize, id: u64, least: usize) -> Block
     ensures { λ r. ⌜ r ≡ blockOf at (opening (kindOf id least) (imageOf (now (image .entry))) at) ⌝ }
 {

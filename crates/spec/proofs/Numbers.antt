@@ -17,7 +17,7 @@ use Rattle.spec.specs.Found.{FoundBody}
 use Rattle.spec.specs.Walk.{fieldsPass, formulaPasses, conversionAt, channelAt, channelList, elem, groupList, dataGroupList, fileFrom, identPasses, walk, reads}
 use Rattle.spec.specs.Sample.{Encoding, unsignedInteger, signedInteger, singleFloat, doubleFloat, byteRun, unreadable, Order, Stored, unsigned, signed, single, double, part, rawValue, storedAs, storedSample, numberOf, linear, converted, physicalValue}
 use Rattle.spec.specs.Call.{outcomeOf, checkOutcome, copying, copied, copyOutcome, Pair, comparing, compared, compareOutcome, Asked, asking, storedAt, sampling, sampleOutcome, rawOutcome, physicalOutcome, programming, programOutcome}
-use Rattle.spec.specs.Numbers.{checkNumbers, copyNumbers, sampleNumbers, physicalNumbers, CheckGivesThese, CopyGivesThese, CompareGivesThese, ProgramGivesThese, SampleGivesThese, PhysicalGivesThese}
+use Rattle.spec.specs.Numbers.{checkNumbers, copyNumbers, sampleNumbers, physicalNumbers, CheckGivesNoOther, CopyGivesNoOther, CompareGivesNoOther, ProgramGivesNoOther, SampleGivesNoOther, PhysicalGivesNoOther}
 use Rattle.spec.proofs.Answers.{not-both}
 use Rattle.spec.proofs.Opening.{no-other-fault}
 
@@ -219,9 +219,9 @@ outcome-among : {A : Type 0} {ns : List ℕ} (m : Answer A) → elem 0 ns ≡ tr
 outcome-among (refused n p) z h = h .each n p refl
 outcome-among (accepted a) z h = z
 
-pub check-gives-these : CheckGivesThese
+pub check-gives-no-other : CheckGivesNoOther
 unfolding checkOutcome
-check-gives-these a = outcome-among (passed (walk a)) refl (go (walk a) (walk-among a))
+check-gives-no-other a = outcome-among (passed (walk a)) refl (go (walk a) (walk-among a))
   where
     go : {A : Type 0} (m : Answer A) → Among checkNumbers m → Among checkNumbers (passed m)
     go (refused n p) h = no n p (h .each n p refl)
@@ -244,19 +244,19 @@ compared-among : (m : Answer Pair) (out : List ℕ) → Among copyNumbers m → 
 compared-among (refused n p) out h = h .each n p refl
 compared-among (accepted x) out h = refl
 
-pub copy-gives-these : CopyGivesThese
+pub copy-gives-no-other : CopyGivesNoOther
 unfolding copyOutcome
-copy-gives-these a out = copied-among _ out (copying-among a (length out))
+copy-gives-no-other a out = copied-among _ out (copying-among a (length out))
 
-pub compare-gives-these : CompareGivesThese
+pub compare-gives-no-other : CompareGivesNoOther
 unfolding compareOutcome comparing
-compare-gives-these a b out =
+compare-gives-no-other a b out =
     compared-among (comparing a b (length out)) out
     (then _ (reads-among a) λ _. then _ (reads-among b) λ _. then _ (test _ _ _ refl) λ _. then _ (test _ _ _ refl) λ _. fine _)
 
-pub program-gives-these : ProgramGivesThese
+pub program-gives-no-other : ProgramGivesNoOther
 unfolding programOutcome programming
-program-gives-these a out = copied-among _ out (then _ (test _ _ _ refl) λ _. copying-among a (length out))
+program-gives-no-other a out = copied-among _ out (then _ (test _ _ _ refl) λ _. copying-among a (length out))
 
 stored-among : (e : Encoding) (order : Order) (f : Fields) (place : ℕ) (r : Logged) → Among sampleNumbers (storedAs e order f place r)
 unfolding storedAs
@@ -280,9 +280,9 @@ asking-among a group channel row =
     then _ (there _ _ _ refl) λ _.
     fine _
 
-pub sample-gives-these : SampleGivesThese
+pub sample-gives-no-other : SampleGivesNoOther
 unfolding sampleOutcome rawOutcome sampling
-sample-gives-these a group channel row =
+sample-gives-no-other a group channel row =
     let h : Among sampleNumbers (sampling a group channel row) = then _ (asking-among a group channel row) stored-at-among in
     (outcome-among _ refl h, outcome-among _ refl (same rawValue h))
 
@@ -301,9 +301,9 @@ converted-among (some cc) x =
     choice (eqb (formula cc) 65535) (fine x)
     (choice (eqb (formula cc) 0) (then _ (test _ _ _ refl) λ _. then _ (test _ _ _ refl) λ _. then _ (test _ _ _ refl) λ _. fine _) (no 16 0 refl))
 
-pub physical-gives-these : PhysicalGivesThese
+pub physical-gives-no-other : PhysicalGivesNoOther
 unfolding physicalOutcome physicalValue
-physical-gives-these a group channel row =
+physical-gives-no-other a group channel row =
     outcome-among _ refl
     (then _ (more 16 (asking-among a group channel row)) λ x.
     then _ (more 16 (stored-at-among x)) λ s.

@@ -1,4 +1,4 @@
--- Which numbers each call gives, and that it gives no other; docs/RULES.md, 5.3. Proofs: proofs/Numbers.antt.
+-- The numbers that a call can give, and that it gives no other; docs/RULES.md, 5.3. Proofs: proofs/Numbers.antt.
 -- Assumes nothing.
 use Prim.Native.Nat.{ℕ}
 use mathlib.Core.Path.{_≡_}
@@ -20,23 +20,23 @@ sampleNumbers = 14 ∷ 15 ∷ checkNumbers
 abbrev pub physicalNumbers : List ℕ
 physicalNumbers = 16 ∷ sampleNumbers
 
-abbrev pub CheckGivesThese : Type 0
-CheckGivesThese = (a : List ℕ) → elem (checkOutcome a .number) checkNumbers ≡ true
+abbrev pub CheckGivesNoOther : Type 0
+CheckGivesNoOther = (a : List ℕ) → elem (checkOutcome a .number) checkNumbers ≡ true
 
-abbrev pub CopyGivesThese : Type 0
-CopyGivesThese = (a out : List ℕ) → elem (copyOutcome a out .given .number) copyNumbers ≡ true
+abbrev pub CopyGivesNoOther : Type 0
+CopyGivesNoOther = (a out : List ℕ) → elem (copyOutcome a out .given .number) copyNumbers ≡ true
 
-abbrev pub CompareGivesThese : Type 0
-CompareGivesThese = (a b out : List ℕ) → elem (compareOutcome a b out .given .number) copyNumbers ≡ true
+abbrev pub CompareGivesNoOther : Type 0
+CompareGivesNoOther = (a b out : List ℕ) → elem (compareOutcome a b out .given .number) copyNumbers ≡ true
 
-abbrev pub ProgramGivesThese : Type 0
-ProgramGivesThese = (a out : List ℕ) → elem (programOutcome a out .given .number) copyNumbers ≡ true
+abbrev pub ProgramGivesNoOther : Type 0
+ProgramGivesNoOther = (a out : List ℕ) → elem (programOutcome a out .given .number) copyNumbers ≡ true
 
--- the call gives the raw value, from the sample as it is stored
-abbrev pub SampleGivesThese : Type 0
-SampleGivesThese =
+-- of the sample as it is stored, and of its raw value
+abbrev pub SampleGivesNoOther : Type 0
+SampleGivesNoOther =
     (a : List ℕ) (group channel row : ℕ)
     → (elem (sampleOutcome a group channel row .number) sampleNumbers ≡ true) × (elem (rawOutcome a group channel row .number) sampleNumbers ≡ true)
 
-abbrev pub PhysicalGivesThese : Type 0
-PhysicalGivesThese = (a : List ℕ) (group channel row : ℕ) → elem (physicalOutcome a group channel row .number) physicalNumbers ≡ true
+abbrev pub PhysicalGivesNoOther : Type 0
+PhysicalGivesNoOther = (a : List ℕ) (group channel row : ℕ) → elem (physicalOutcome a group channel row .number) physicalNumbers ≡ true

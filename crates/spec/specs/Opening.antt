@@ -1,5 +1,5 @@
 -- Which refusal a block that does not open has, by what stands in the image. Document 02, CR 3; docs/RULES.md, 2.2 and 5.1. Proofs: proofs/Opening.antt.
--- The first five leave no image and no place out, and no two of them speak of the same.
+-- The statements `HeadNotInside` to `BlockInside` leave no image and no place out, and no two of them overlap.
 -- Assumes nothing.
 use Prim.Native.Nat.{ℕ, _+_, _≤_, _<_}
 use mathlib.Core.Path.{_≡_}

@@ -1,4 +1,4 @@
-// Channels and channel groups, against the definitions of `spec`: refusals 5 to 10.
+// Channels and channel groups, against the definitions of `spec`: refusals 5 to 10 and 17 to 19.
 use image::Block;
 use image::Cc;
 use image::Ce;

@@ -85,7 +85,8 @@ fn at_the_end(book: &mut Book, sheet: &Sheet, field: Field) {
     book.accept(format!("{label}: at another place parity"), &odd.bytes);
 }
 
-/// The size field itself, with plenty of bytes behind the block.
+/// The size field itself, with plenty of bytes behind the block; sizes that
+/// are too small also with none behind the head.
 fn sizes(book: &mut Book, sheet: &Sheet, field: Field) {
     let (label, at, kind) = field;
     let size = least(kind);
@@ -120,7 +121,7 @@ fn sizes(book: &mut Book, sheet: &Sheet, field: Field) {
     book.expect(name, &largest.bytes, 19, at);
 }
 
-/// Wrong identifiers.
+/// Wrong identifiers, with sizes right and wrong, and with a head that is cut.
 fn names(book: &mut Book, sheet: &Sheet, field: Field) {
     let (label, at, kind) = field;
     let whole = with_last(sheet, field, 300);

@@ -37,8 +37,8 @@ impl Faults {
         self.bytes(name, at, &value.to_le_bytes(), number, at);
     }
 
-    /// A link that leads nowhere, a wrong identifier, a size that is too
-    /// small and one that is too large.
+    /// A link beyond the image, a wrong identifier, a size that is too small
+    /// and one that is too large.
     fn block(&mut self, name: &str, field: usize, block: usize, too_small: u16) {
         self.link(&format!("{name} link"), field, FAR, 5);
         self.bytes(&format!("{name} identifier"), block, b"ZZ", 17, field);

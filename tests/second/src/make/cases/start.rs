@@ -106,6 +106,8 @@ fn header(book: &mut Book) {
             let name = format!("header named {name:?} says {size}");
             book.expect(name, &sheet.bytes, 17, 64);
         }
+        sheet.bytes.truncate(68);
+        book.expect(format!("header named {name:?}, its head alone"), &sheet.bytes, 17, 64);
         sheet.bytes.truncate(67);
         book.expect(format!("header named {name:?}, three bytes"), &sheet.bytes, 5, 64);
     }
@@ -124,7 +126,7 @@ fn header_sizes(book: &mut Book) {
             sheet.bytes.pop();
             book.expect(format!("{name}, last byte missing"), &sheet.bytes, 19, 64);
         }
-        for size in [0, 1, 3, 4, 100, 162, 163] {
+        for size in [0, 1, 2, 3, 4, 100, 162, 163] {
             let mut sheet = Sheet::new(version, 208);
             sheet.put16(66, size);
             let name = format!("version {version}, header says {size}");
