@@ -7,6 +7,7 @@ pub mod Groups
 pub mod RoundTrip
 pub mod Logs
 pub mod Opening
+pub mod Links
 pub mod Numbers
 pub mod Opens
 pub mod Accepted

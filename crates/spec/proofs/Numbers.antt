@@ -1,14 +1,15 @@
 -- The proofs of specs/Numbers.antt: an answer whose refusals are all among some numbers, step by step.
 -- Assumes nothing.
 use Prim.Native.Nat.{ℕ, zero, suc, _+_, _-_}
-use mathlib.Core.Path.{_≡_, refl}
+use mathlib.Core.Path.{_≡_, refl, sym}
 use mathlib.Core.Logic.{⊎-elim}
-use mathlib.Core.Bool.{Bool, true, false, cond, _||_}
+use mathlib.Core.Bool.{Bool, true, false, cond, _||_, true≢false}
 use mathlib.Core.List.{List, [], _∷_}
 use mathlib.Core.Option.{Option, none, some}
 use lib.Dec.{ltb, eqb}
 use lib.ListN.{length, getD}
 use lib.Ieee.{Float}
+use borrow.Author.Tests.{eqb-true}
 use Rattle.spec.specs.Answer.{Answer, refused, accepted, _>>=_, require, present, mapAnswer, passed, atPlace}
 use Rattle.spec.specs.Block.{Kind, Image, Opened, opening, openBlock, openAs, bodyAt, formula, Fields, CnBlock}
 use Rattle.spec.specs.Reading.{Body, Reading}
@@ -24,8 +25,8 @@ use Rattle.spec.proofs.Opening.{no-other-fault}
 -- ---- answers
 
 -- every refusal has one of these numbers
-record Among {A : Type 0} (ns : List ℕ) (m : Answer A) : Type 0 where
-  each : (n p : ℕ) → m ≡ refused n p → elem n ns ≡ true
+pub record Among {A : Type 0} (ns : List ℕ) (m : Answer A) : Type 0 where
+  pub each : (n p : ℕ) → m ≡ refused n p → elem n ns ≡ true
 
 fine : {A : Type 0} {ns : List ℕ} (a : A) → Among ns (accepted a)
 fine a = record { each = λ n p e. absurd (not-both refl e) }
@@ -135,19 +136,19 @@ module _ (image : Image) where
       then _ (groups-among left (cl - length channels) mode (cg .content .recordID ∷ used) (p + 4) (cg .content .next)) λ _.
       fine _
 
--- ---- records
+-- ---- records: 11 alone
 
-size-among : (p n k : ℕ) (slots : List Slot) → Among checkNumbers (sizeDue p n k slots)
+size-among : (p n k : ℕ) (slots : List Slot) → Among (11 ∷ []) (sizeDue p n k slots)
 size-among p n k [] = no 11 p refl
 size-among p n k (s ∷ ss) = choice (eqb (s .recordID) n) (choice (ltb k (s .recordCount)) (fine _) (no 11 p refl)) (size-among p n k ss)
 
 module _ (image : List ℕ) where
-  in-order-among : (k size n p : ℕ) → Among checkNumbers (inOrder image k size n p)
+  in-order-among : (k size n p : ℕ) → Among (11 ∷ []) (inOrder image k size n p)
   unfolding inOrder
   in-order-among zero size n p = fine []
   in-order-among (suc k) size n p = then _ (test _ _ _ refl) λ _. then _ (in-order-among k size n (p + size)) λ _. fine _
 
-  by-id-among : (k mode : ℕ) (slots : List Slot) (seen : List ℕ) (p : ℕ) → Among checkNumbers (byID image k mode slots seen p)
+  by-id-among : (k mode : ℕ) (slots : List Slot) (seen : List ℕ) (p : ℕ) → Among (11 ∷ []) (byID image k mode slots seen p)
   unfolding byID
   by-id-among zero mode slots seen p = fine []
   by-id-among (suc k) mode slots seen p =
@@ -158,16 +159,26 @@ module _ (image : List ℕ) where
       then _ (by-id-among k mode slots (getD image p 0 ∷ seen) (p + size + mode)) λ _.
       fine _
 
-  log-from-among : (mode : ℕ) (slots : List Slot) (p : ℕ) → Among checkNumbers (logFrom image mode slots p)
+  log-from-among : (mode : ℕ) (slots : List Slot) (p : ℕ) → Among (11 ∷ []) (logFrom image mode slots p)
   unfolding logFrom
   log-from-among zero [] p = fine []
   log-from-among zero (s ∷ ss) p = in-order-among _ _ _ p
   log-from-among (suc m) slots p = by-id-among _ _ _ _ p
 
-  log-among : (mode : ℕ) (slots : List Slot) (linkField : ℕ) (l : Option ℕ) → Among checkNumbers (logOf image mode slots linkField l)
+  pub log-among : (mode : ℕ) (slots : List Slot) (linkField : ℕ) (l : Option ℕ) → Among (11 ∷ []) (logOf image mode slots linkField l)
   unfolding logOf
   log-among mode slots linkField none = then _ (test _ _ _ refl) λ _. fine []
   log-among mode slots linkField (some p) = choice (eqb (recordsDue slots) 0) (fine []) (log-from-among mode slots p)
+
+pub only-11 : (n : ℕ) → elem n (11 ∷ []) ≡ true → n ≡ 11
+only-11 n e = go (eqb n 11) refl e
+  where
+    go : (t : Bool) → eqb n 11 ≡ t → t || false ≡ true → n ≡ 11
+    go true f e = eqb-true n 11 f
+    go false f e = absurd (true≢false (sym e))
+
+records-among : {A : Type 0} {m : Answer A} → Among (11 ∷ []) m → Among checkNumbers m
+records-among h = record { each = λ n p e. rw (only-11 n (h .each n p e)) refl }
 
 -- ---- the file
 
@@ -182,7 +193,7 @@ module _ (image : Image) where
       then _ (test _ _ _ refl) λ _.
       then _ (test _ _ _ refl) λ _.
       then _ (groups-among image _ _ _ _ _ _) λ groups.
-      then _ (log-among _ _ _ _ _) λ _.
+      then _ (records-among (log-among _ _ _ _ _)) λ _.
       then _ (data-groups-among left _ _ (p + 4) (dg .content .next)) λ _.
       fine _
 

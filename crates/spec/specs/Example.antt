@@ -675,7 +675,11 @@ faults first second least image field =
     ∷ checked (image (first ∷ second ∷ (bytesOf 2 least ++ zeros (least - 4)))) 0 0
     ∷ []
 
--- every link that a block is behind, and HD
+-- a CC at 514, a CE at 560 and a TX at 566, each of its least size
+abbrev pub bodies : List ℕ
+bodies = join (conversion 0 (zeros 2) ∷ small 67 69 (zeros 2) ∷ text [] ∷ [])
+
+-- HD, every link that leads to a block, and links behind other groups, channels and bodies
 unfoldable pub openings : List Example
 openings =
     faults 72 68 164 (λ bytes. id300 ++ bytes) 64
@@ -693,6 +697,20 @@ openings =
     ++ faults 84 88 4 (λ bytes. oneChannel (cnBlock (links4 0 0 0 514) 0 0 16 0 (zeros 10)) bytes) 306
     ++ faults 84 88 4 (λ bytes. oneChannel (cnBlock (zeros 16) 0 0 16 0 (bytesOf 4 514 ++ zeros 6)) bytes) 504
     ++ faults 84 88 4 (λ bytes. oneChannel (cnBlock (zeros 16) 0 0 16 0 (zeros 4 ++ bytesOf 4 514 ++ zeros 2)) bytes) 508
+    -- behind other groups, channels and bodies
+    ++ faults 84 88 4 (λ bytes. oneDataGroup (dgBlock 0 256 0 0 0 1) (join (cgBlock 286 0 0 1 0 0 0 0 ∷ cgBlock 0 0 316 2 0 0 0 0 ∷ bytes ∷ []))) 298
+    ++ faults 67 69 6 (λ bytes. oneChannel (cnBlock (links4 514 570 0 0) 0 0 16 0 (zeros 10)) (bodies ++ bytes)) 298
+    ++ faults 84 88 4 (λ bytes. oneChannel (cnBlock (links4 514 560 0 570) 0 0 16 0 (zeros 10)) (bodies ++ bytes)) 306
+    ++ faults 84 88 4 (λ bytes. oneChannel (cnBlock (links4 514 560 0 566) 0 0 16 0 (bytesOf 4 570 ++ zeros 6)) (bodies ++ bytes)) 504
+    ++ faults 84 88 4 (λ bytes. oneChannel (cnBlock (links4 514 560 0 566) 0 0 16 0 (bytesOf 4 566 ++ bytesOf 4 570 ++ zeros 2)) (bodies ++ bytes)) 508
+    ++ faults 67 78 218 (λ bytes. oneChannel (linked 570 (cnBlock (links4 514 560 0 566) 0 0 16 0 (bytesOf 4 566 ++ bytesOf 4 566 ++ zeros 2))) (bodies ++ bytes)) 290
+    ++ faults 67 67 46 (λ bytes. oneChannel (cnNext 514) (cnBlock (links4 742 0 0 0) 0 0 16 0 (zeros 10) ++ bytes)) 522
+    ++ faults 67 78 218 (λ bytes. oneChannel (cnNext 514) (cnNext 742 ++ bytes)) 518
+    ++ faults 67 67 46 (λ bytes. oneChannel (cut 218 (cnBlock (links4 514 0 0 0) 0 0 16 0 (zeros 10))) (zeros 10 ++ bytes)) 294
+    ++ faults 67 78 218 (λ bytes. oneChannelGroup 0 (cgBlock 0 290 286 0 0 0 0 0) (text [] ++ bytes)) 264
+    ++ faults 67 71 26 (λ bytes. oneDataGroup (dgBlock 0 256 0 0 0 1) (join (cgBlock 286 0 0 1 0 0 0 0 ∷ cgBlock 544 316 0 2 0 1 0 0 ∷ signal 0 8 0 ∷ bytes ∷ []))) 290
+    ++ faults 68 71 24 (λ bytes. oneDataGroup (dgBlock 256 0 0 0 0 0) (join (dgBlock 314 284 0 0 1 0 ∷ cgBlock 0 0 0 0 0 0 0 0 ∷ bytes ∷ []))) 260
+    ++ (checked (oneChannel (cnBlock (links4 514 1 0 0) 0 0 16 0 (zeros 10)) (67 ∷ 67 ∷ 255 ∷ 255 ∷ [])) 19 294 ∷ [])
 
 -- ---- two files compared
 
