@@ -56,10 +56,10 @@ FaultIsToldAtItsLink =
     → walk a ≡ refused n q
     → OneOfFour n
     → ((q ≡ 64) × (opening HD (imageOf a) 64 ≡ refused n 0))
-      ⊎ ((l : Link)
-      × (p : ℕ)
-      × (t : ℕ)
-      × Reached (imageOf a) (l .from) p
-      × Leads (imageOf a) l p t
-      × (opening (l .to) (imageOf a) t ≡ refused n 0)
-      × (q ≡ p + l .offset))
+    ⊎ ((l : Link)
+    × (p : ℕ)
+    × (t : ℕ)
+    × Reached (imageOf a) (l .from) p
+    × Leads (imageOf a) l p t
+    × (opening (l .to) (imageOf a) t ≡ refused n 0)
+    × (q ≡ p + l .offset))

@@ -4,6 +4,7 @@ use Prim.Native.Nat.{ℕ}
 use mathlib.Core.Path.{_≡_}
 use mathlib.Core.Bool.{true}
 use mathlib.Core.List.{List, [], _∷_}
+use Rattle.spec.specs.Bytes.{All}
 use Rattle.spec.specs.Walk.{elem}
 use Rattle.spec.specs.Call.{checkOutcome, copyOutcome, compareOutcome, sampleOutcome, rawOutcome, physicalOutcome, programOutcome}
 
@@ -22,6 +23,10 @@ physicalNumbers = 16 ∷ sampleNumbers
 
 abbrev pub CheckGivesNoOther : Type 0
 CheckGivesNoOther = (a : List ℕ) → elem (checkOutcome a .number) checkNumbers ≡ true
+
+-- and it gives each of them
+abbrev pub CheckGivesEach : Type 0
+CheckGivesEach = All (λ n. (a : List ℕ) × (checkOutcome a .number ≡ n)) checkNumbers
 
 abbrev pub CopyGivesNoOther : Type 0
 CopyGivesNoOther = (a out : List ℕ) → elem (copyOutcome a out .given .number) copyNumbers ≡ true
