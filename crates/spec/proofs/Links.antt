@@ -3,22 +3,20 @@
 use Prim.Native.Nat.{ℕ, zero, suc, _+_, _-_}
 use mathlib.Core.Path.{_≡_, refl, sym, _∙_, ap, subst}
 use mathlib.Core.Logic.{_⊎_, inl, inr, ⊎-elim}
-use mathlib.Core.Bool.{Bool, true, false, cond, true≢false}
+use mathlib.Core.Bool.{Bool, true, false, true≢false}
 use mathlib.Core.List.{List, [], _∷_}
 use mathlib.Core.Option.{Option, none, some}
-use lib.Dec.{ltb, eqb}
-use lib.ListN.{length, getD, getElem?}
+use lib.ListN.{length, getElem?}
 use Rattle.spec.specs.Bytes.{link}
 use Rattle.spec.specs.Answer.{Answer, refused, accepted, _>>=_, require, atPlace}
 use Rattle.spec.specs.Block.{Kind, HD, DG, CG, CN, CC, TX, PR, CE, Image, imageOf, Opened, opening, openBlock, openAs, bodyOf, bodyAt, readHd, readDg, readCg, Fields, readCn}
-use Rattle.spec.specs.Records.{Slot, recordsDue, times, sizeDue, inOrder, byID, logFrom, logOf}
+use Rattle.spec.specs.Records.{Slot, logOf}
 use Rattle.spec.specs.Found.{FoundBody}
 use Rattle.spec.specs.Walk.{fieldsPass, formulaPasses, conversionAt, channelAt, channelList, elem, groupList, dataGroupList, fileFrom, identPasses, walk}
 use Rattle.spec.specs.Links.{Link, links, Leads, Reached, header, behind, FaultIsToldAtItsLink}
-use Rattle.spec.specs.Opening.{OneOfFour}
 use Rattle.spec.proofs.Answers.{not-both}
 use Rattle.spec.proofs.Opening.{no-other-fault}
-use Rattle.spec.proofs.Numbers.{Among, log-among, only-11}
+use Rattle.spec.proofs.Numbers.{log-among, only-11}
 
 abbrev isFault : ℕ → Bool
 isFault n = elem n (5 ∷ 17 ∷ 18 ∷ 19 ∷ [])
@@ -50,10 +48,6 @@ module _ (image : Image) where
   unfolding require
   test true n q h = fine tt
   test false n q h = no n q h
-
-  choice : {A : Type 0} (t : Bool) {m m′ : Answer A} → Tells m → Tells m′ → Tells (cond t m m′)
-  choice true h h′ = h
-  choice false h h′ = h′
 
   -- ---- a link of a block that is reached and opens, at its field
 

@@ -8,7 +8,6 @@ use mathlib.Core.List.{List}
 use lib.Dec.{leb}
 use lib.ListN.{length, take, drop}
 use borrow.Author.Tests.{le-leb, lt-leb}
-use Rattle.spec.specs.Bytes.{sameBytes}
 use Rattle.spec.specs.Answer.{Answer, refused, accepted, _>>=_, require, atPlace}
 use Rattle.spec.specs.Block.{Kind, identifier, Image, sizeAt, opening, openBlock, openAs, bodyOf, bodyAt}
 use Rattle.spec.specs.Opening.{HeadInside, Named, HeadNotInside, OtherIdentifier, SizeBelowLeast, EndBeyondImage, BlockInside, OneOfFour, NoOtherFault, FaultIsPassedOn, NothingElseIsPassedOn}
