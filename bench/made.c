@@ -84,18 +84,6 @@ static void records(uint8_t *image, size_t *end, const struct shape *s, const si
         put(image, cg[g] + 22, counts[g], 4);
 }
 
-/* A trigger of so many events, with a comment, behind a link field. */
-static void trigger(uint8_t *image, size_t *end, size_t link, unsigned events)
-{
-    size_t tr = block(image, end, "TR", 10 + 24 * events);
-    put(image, link, tr, 4);
-    put(image, tr + 4, *end, 4);
-    put(image, tr + 8, events, 2);
-    for (unsigned n = 0; n < 3 * events; n++)
-        put(image, tr + 10 + 8 * n, n * 0x9E3779B97F4A7C15u, 8);
-    block(image, end, "TX", 64);
-}
-
 size_t made(uint8_t *image, const struct shape *s, uint64_t seed)
 {
     size_t cg[256], end = 64, hd, dg, link;
@@ -106,8 +94,6 @@ size_t made(uint8_t *image, const struct shape *s, uint64_t seed)
     dg = block(image, &end, "DG", 28);
     put(image, hd + 4, dg, 4);
     put(image, dg + 22, s->mode, 2);
-    if (s->events > 0)
-        trigger(image, &end, dg + 12, s->events);
     link = dg + 8;
     for (unsigned g = 0; g < s->groups; g++) {
         cg[g] = group(image, &end, link, s, g);

@@ -14,7 +14,6 @@ struct shape {
     unsigned least, most;
     unsigned files; /* so many of them; more than one differ from each other */
     int random;     /* the records of all groups come in random order, else in turn */
-    unsigned events; /* of a trigger with a comment; 0 for no trigger */
 };
 
 /* A shape with a little more or less of everything, and the records in either order; the same for the same seed. */

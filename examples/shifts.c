@@ -71,7 +71,7 @@ static void tell(const uint8_t *entry)
         break;
     case MDF3_ENTRY_GROUP:
         if (item == 0)
-            printf("group %u, record size, comment or trigger\n", group);
+            printf("group %u, record size or comment\n", group);
         else
             printf("group %u, channel %u\n", group, item - 1);
         break;

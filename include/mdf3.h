@@ -39,9 +39,9 @@
 #include <stdint.h>
 #include <string.h>
 
-#define MDF3_VERSION "1.5.0"
+#define MDF3_VERSION "1.4.0"
 /* The same for #if: 10,000 for each major, 100 for each minor number. */
-#define MDF3_VERSION_NUMBER 10500
+#define MDF3_VERSION_NUMBER 10400
 
 #ifdef __cplusplus
 extern "C" {
@@ -74,10 +74,9 @@ extern "C" {
  * 17, 18 and 19 below are tested after that, in this order. The place of all
  * four is that of the link field; 64 for the header block. */
 #define MDF3_BLOCK_HEAD 5
-/* Something that is not supported. A channel dependency, or from version 330 on
- * a sample reduction: the place of that link field. A conversion of formula 12:
- * the place of its formula field. Up to 1.4.0 of this library triggers too: now
- * they are carried. */
+/* Something that is not supported. A trigger, a channel dependency, or from
+ * version 330 on a sample reduction: the place of that link field. A conversion
+ * of formula 12: the place of its formula field. */
 #define MDF3_UNSUPPORTED 6
 /* More than 1,024 data groups, 1,024 channel groups or 16,384 channels in the
  * file: the place of the link field that leads to the first one too many.
@@ -130,8 +129,7 @@ extern "C" {
  * there. The place as with 5. */
 #define MDF3_BLOCK_IDENTIFIER 17
 /* A block does not open: its size is below the least of its kind. The place as
- * with 5. Also a trigger block whose size does not hold the events that it
- * counts, 10 bytes and 24 for each: tested after 19, with the same place. */
+ * with 5. */
 #define MDF3_BLOCK_SIZE 18
 /* A block does not open: it ends beyond the end of the image. The place as
  * with 5. */
@@ -215,12 +213,11 @@ uint32_t mdf3_check(const uint8_t *image, size_t image_len, uint8_t answer[MDF3_
  * copy as in the image, and the same content; only places differ.
  *
  * In a copy DG, CG and CN blocks have 28, 30 and 228 bytes, so that all their
- * fields are there; HD has 164, from version 320 on 208; a TR block 10 and 24
- * for each event; TX, PR, CC and CE keep the size that they have in the image.
- * The blocks stand where section 4 of the rules says. So how many groups,
- * channels and records there are, the names and units of channels, and the
- * events of triggers can be read from a copy by following its links;
- * tool/list.c in the source does so.
+ * fields are there; HD has 164, from version 320 on 208; TX, PR, CC and CE
+ * keep the size that they have in the image. The blocks stand where section 4
+ * of the rules says. So how many groups, channels and records there are, and
+ * the names and units of channels, can be read from a copy by following its
+ * links; tool/list.c in the source does so.
  */
 uint32_t mdf3_copy(const uint8_t *image, size_t image_len, uint8_t *out, size_t out_len,
                    uint8_t answer[MDF3_ANSWER_SIZE]);
@@ -242,8 +239,8 @@ uint32_t mdf3_copy(const uint8_t *image, size_t image_len, uint8_t *out, size_t 
 #define MDF3_ENTRY_FILE 1
 /* A group that one of the two alone has. It has no other entry. */
 #define MDF3_ENTRY_LONE_GROUP 2
-/* In a group that both have: item 0 is its record size, comment and trigger,
- * item c + 1 its channel c, which differs or which one of the two alone has. */
+/* In a group that both have: item 0 is its record size and comment, item c + 1
+ * its channel c, which differs or which one of the two alone has. */
 #define MDF3_ENTRY_GROUP 3
 /* A record that both have: the item is its number, and the byte where the two
  * differ first, counted from 0 in the record. Where the shorter is a beginning

@@ -41,16 +41,6 @@ struct part body(struct block b, size_t offset)
     return p;
 }
 
-struct part events_at(const struct file *f, size_t tr)
-{
-    struct part p = {NULL, 0};
-    if (tr != 0) {
-        p.bytes = f->bytes + tr + 10;
-        p.length = 24 * (size_t)u16(f, tr + 8);
-    }
-    return p;
-}
-
 int same_part(struct part one, struct part other)
 {
     if (one.bytes == NULL || other.bytes == NULL)

@@ -26,9 +26,6 @@ struct part field(struct block b, size_t offset, size_t length);
 /* The body behind a link field: all bytes behind that block's head; absent behind a nil link. */
 struct part body(struct block b, size_t offset);
 
-/* The events of the TR block at a place, 24 bytes each; absent at 0. */
-struct part events_at(const struct file *f, size_t tr);
-
 int same_part(struct part one, struct part other);
 
 /* The name of a channel, up to its first zero byte: the long one where there is one, else the short one. */

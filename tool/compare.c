@@ -148,7 +148,7 @@ static void print_of_group(struct side *one, struct side *other, const uint8_t *
         break;
     case MDF3_ENTRY_GROUP:
         if (item == 0)
-            print_group_parts(&one->f, one->group, &other->f, other->group);
+            print_group_parts(&one->f, one->group.cg, &other->f, other->group.cg);
         else
             print_channel(one, other, item - 1);
         break;

@@ -27,23 +27,6 @@ static void list_channel(const struct file *f, size_t cn, unsigned number)
     printf("%s\n", u16(f, cn + 24) == 1 ? ", time channel" : "");
 }
 
-/* Of the group's data group: how many events, and the comment, in quotes since it may be of no bytes. */
-static void list_trigger(const struct file *f, size_t tr)
-{
-    unsigned events;
-    struct part comment;
-    if (tr == 0)
-        return;
-    events = u16(f, tr + 8);
-    printf("  trigger: %u event%s", events, plural(events));
-    comment = body(block_at(f, tr), 4);
-    if (comment.bytes != NULL) {
-        printf(", comment ");
-        print_quoted(stdout, comment.bytes, comment.length);
-    }
-    putchar('\n');
-}
-
 static void list_group(const struct file *f, size_t dg, unsigned number)
 {
     size_t cg = u32(f, dg + 8), cn;
@@ -52,7 +35,6 @@ static void list_group(const struct file *f, size_t dg, unsigned number)
     unsigned size = u16(f, cg + 20), channels = u16(f, cg + 18);
     printf("group %u: %lu record%s of %u byte%s, %u channel%s\n", number, records, plural(records), size, plural(size), channels,
            plural(channels));
-    list_trigger(f, u32(f, dg + 12));
     for (cn = u32(f, cg + 8); cn != 0; cn = u32(f, cn + 4))
         list_channel(f, cn, channel++);
 }

@@ -63,13 +63,6 @@ static int differs(struct row r, struct block one, struct block other)
     return !same_part(field(one, r.offset, r.length), field(other, r.offset, r.length));
 }
 
-/* One more behind so many. */
-static int print_part(int told, const char *words)
-{
-    printf("%s%s", told == 0 ? " in " : ", ", words);
-    return told + 1;
-}
-
 /* How many there are. */
 static int print_rows(const struct row *rows, size_t count, struct block one, struct block other)
 {
@@ -77,22 +70,8 @@ static int print_rows(const struct row *rows, size_t count, struct block one, st
     fputs(": differs", stdout);
     for (size_t i = 0; i < count; i++)
         if (differs(rows[i], one, other))
-            told = print_part(told, rows[i].words);
+            printf("%s%s", told++ == 0 ? " in " : ", ", rows[i].words);
     return told;
-}
-
-/* Behind so many. */
-static void print_trigger_parts(int told, const struct file *one, size_t tr, const struct file *other, size_t other_tr)
-{
-    if (tr == 0 || other_tr == 0) {
-        if (tr != other_tr)
-            print_part(told, "trigger");
-        return;
-    }
-    if (!same_part(events_at(one, tr), events_at(other, other_tr)))
-        told = print_part(told, "trigger events");
-    if (!same_part(body(block_at(one, tr), 4), body(block_at(other, other_tr), 4)))
-        print_part(told, "trigger comment");
 }
 
 void print_ident_parts(const struct file *one, const struct file *other)
@@ -108,13 +87,12 @@ void print_header_parts(const struct file *one, const struct file *other)
     size_t count = COUNT(header) - (later && also ? 0 : LATER);
     int told = print_rows(header, count, block_at(one, 64), block_at(other, 64));
     if (later != also)
-        print_part(told, "fields since version 3.20");
+        printf("%sfields since version 3.20", told == 0 ? " in " : ", ");
 }
 
-void print_group_parts(const struct file *one, struct group g, const struct file *other, struct group h)
+void print_group_parts(const struct file *one, size_t cg, const struct file *other, size_t other_cg)
 {
-    int told = print_rows(group, COUNT(group), block_at(one, g.cg), block_at(other, h.cg));
-    print_trigger_parts(told, one, u32(one, g.dg + 12), other, u32(other, h.dg + 12));
+    print_rows(group, COUNT(group), block_at(one, cg), block_at(other, other_cg));
 }
 
 void print_channel_parts(const struct file *one, size_t cn, const struct file *other, size_t other_cn)

@@ -7,8 +7,8 @@
 void print_ident_parts(const struct file *one, const struct file *other);
 void print_header_parts(const struct file *one, const struct file *other);
 
-/* Of two channel groups with their data groups' triggers, and of two channels by the places of their blocks. */
-void print_group_parts(const struct file *one, struct group g, const struct file *other, struct group h);
+/* Of two channel groups, and of two channels, by the places of their blocks. */
+void print_group_parts(const struct file *one, size_t cg, const struct file *other, size_t other_cg);
 void print_channel_parts(const struct file *one, size_t cn, const struct file *other, size_t other_cn);
 
 #endif

@@ -20,9 +20,7 @@ static const char *of_block(uint32_t number, uint64_t place)
     static const char *const behind_link[] = {
         [MDF3_BLOCK_HEAD] = "the link at this place leads past the end of the file or to its last three bytes",
         [MDF3_BLOCK_IDENTIFIER] = "the link at this place leads to another identifier than that of the block wanted there",
-        [MDF3_BLOCK_SIZE] =
-            "the link at this place leads to a block that is too small for its kind or, a trigger, for the events that it "
-            "counts",
+        [MDF3_BLOCK_SIZE] = "the link at this place leads to a block that is too small for its kind",
         [MDF3_BLOCK_END] = "the link at this place leads to a block that ends beyond the end of the file",
     };
     static const char *const at_header[] = {
@@ -33,8 +31,7 @@ static const char *of_block(uint32_t number, uint64_t place)
             "the header block has another identifier, or the link at this place leads to another than that of the block "
             "wanted there",
         [MDF3_BLOCK_SIZE] =
-            "the header block, or the block that the link at this place leads to, is too small for its kind or, a trigger, for "
-            "the events that it counts",
+            "the header block, or the block that the link at this place leads to, is too small for its kind",
         [MDF3_BLOCK_END] =
             "the header block, or the block that the link at this place leads to, ends beyond the end of the file",
     };
@@ -50,7 +47,8 @@ const char *in_words(uint32_t number, uint64_t place)
         "not finalized by its logger",
         "",
         "",
-        "a channel dependency, text range conversion or, from version 3.30 on, sample reduction at this place: not supported",
+        "a trigger, channel dependency, text range conversion or, from version 3.30 on, sample reduction at this place: "
+        "not supported",
         "the link at this place leads to one data group, channel group or channel too many",
         "wrong record IDs: the number of ID bytes, a second group without IDs, or an ID at this place",
         "a channel with a type, bits or data type that cannot be, at this place",

@@ -5,17 +5,13 @@ use mathlib.Core.Path.{◌≡◌}
 use mathlib.Core.List.{append_assoc, append-nil}
 use mathlib.Core.Option.{none}
 use Rattle.spec.specs.Bytes.{target}
-use Rattle.spec.specs.Block.{hd_written, DgBlock, write_dg, TrBlock, write_tr, CgBlock, write_cg, CnBlock, write_cn, HdBlock, write_hd}
-use Rattle.blocks.specs.Blocks.{dg_bytes, tr_bytes, cg_bytes, cn_bytes, hd_bytes}
+use Rattle.spec.specs.Block.{hd_written, DgBlock, write_dg, CgBlock, write_cg, CnBlock, write_cn, HdBlock, write_hd}
+use Rattle.blocks.specs.Blocks.{dg_bytes, cg_bytes, cn_bytes, hd_bytes}
 
-pub dg_written_lem : (dg : DgBlock) → dg.mode ≡ 0
-    → write_dg dg ≡ dg_bytes (target dg.next) (target dg.first_group) (target dg.trigger) (target dg.records)
+pub dg_written_lem : (dg : DgBlock) → dg.trigger ≡ none → dg.mode ≡ 0
+    → write_dg dg ≡ dg_bytes (target dg.next) (target dg.first_group) (target dg.records)
 unfolding write_dg dg_bytes
-dg_written_lem dg m = rw m
-
-pub tr_written_lem : (tr : TrBlock) → write_tr tr ≡ tr_bytes (target tr.comment) tr.count tr.events
-unfolding write_tr tr_bytes
-tr_written_lem tr = simp append-nil
+dg_written_lem dg t m = rw (t, m)
 
 pub cg_written_lem : (n : ℕ) (cg : CgBlock) → cg.next ≡ none → cg.record_id ≡ 0 → cg.reduction ≡ none
     → write_cg n cg ≡ cg_bytes (target cg.first_channel) (target cg.comment) n cg.record_size cg.record_count

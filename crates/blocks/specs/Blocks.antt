@@ -3,23 +3,23 @@
 -- Assumes nothing.
 use Rattle.std.specs.Prelude.{ℕ, ◌+◌, List, ◌++◌, length}
 use Rattle.spec.specs.Bytes.{bytes_of}
-use Rattle.spec.specs.Block.{identifier, hd_kind, dg_kind, tr_kind, cg_kind, cn_kind, dg_written, tr_written, cg_written, cn_written}
+use Rattle.spec.specs.Block.{identifier, hd_kind, dg_kind, cg_kind, cn_kind, dg_written, cg_written, cn_written}
 
--- one channel group, mode 0
-abbrev pub dg_parts : ℕ → ℕ → ℕ → ℕ → List ℕ
-dg_parts next group trigger records =
+-- no trigger, one channel group, mode 0
+abbrev pub dg_parts : ℕ → ℕ → ℕ → List ℕ
+dg_parts next group records =
     identifier dg_kind
     ++ bytes_of 2 dg_written
     ++ bytes_of 4 next
     ++ bytes_of 4 group
-    ++ bytes_of 4 trigger
+    ++ bytes_of 4 0
     ++ bytes_of 4 records
     ++ bytes_of 2 1
     ++ bytes_of 2 0
     ++ bytes_of 4 0
 
-unfoldable pub dg_bytes : ℕ → ℕ → ℕ → ℕ → List ℕ
-dg_bytes next group trigger records = dg_parts next group trigger records
+unfoldable pub dg_bytes : ℕ → ℕ → ℕ → List ℕ
+dg_bytes next group records = dg_parts next group records
 
 -- no next group, record ID 0, no sample reduction
 abbrev pub cg_parts : ℕ → ℕ → ℕ → ℕ → ℕ → List ℕ
@@ -62,13 +62,6 @@ hd_head size first comment program groups =
 
 unfoldable pub hd_bytes : ℕ → ℕ → ℕ → ℕ → ℕ → List ℕ → List ℕ → List ℕ
 hd_bytes size first comment program groups plain later = (hd_head size first comment program groups ++ plain) ++ later
-
--- before the events
-abbrev pub tr_head : ℕ → ℕ → ℕ → List ℕ
-tr_head size comment count = identifier tr_kind ++ bytes_of 2 size ++ bytes_of 4 comment ++ bytes_of 2 count
-
-unfoldable pub tr_bytes : ℕ → ℕ → List ℕ → List ℕ
-tr_bytes comment count events = tr_head (tr_written count) comment count ++ events
 
 -- a block that is all body: its identifier as a number of two bytes
 abbrev pub block_head : ℕ → ℕ → List ℕ

@@ -1,15 +1,15 @@
 // Writes blocks over a lent slice, from a place on. A number is written by its low bytes.
-ghost use Rattle.std.specs.Prelude.{◌≡◌, ◌+◌, ◌*◌, ◌-◌, ◌≤◌, length, take, drop};
+ghost use Rattle.std.specs.Prelude.{◌≡◌, ◌+◌, ◌-◌, ◌≤◌, length, take, drop};
 ghost use Rattle.spec.specs.Block.{hd_written};
 ghost use Rattle.write.specs.Write.{Wrote, padded};
-ghost use Rattle.blocks.specs.Blocks.{dg_parts, dg_bytes, tr_head, tr_bytes, cg_parts, cg_bytes, cn_head, cn_names, cn_bytes, hd_head, hd_bytes, block_head, block_bytes};
+ghost use Rattle.blocks.specs.Blocks.{dg_parts, dg_bytes, cg_parts, cg_bytes, cn_head, cn_names, cn_bytes, hd_head, hd_bytes, block_head, block_bytes};
 
-use image::{Cc, Ce, Cg, Cn, Dg, Hd, Id, Pr, Tr, Tx};
+use image::{Cc, Ce, Cg, Cn, Dg, Hd, Id, Pr, Tx};
 
 // ---- DG and CG: numbers alone
 
-fn dg(next: usize, group: usize, trigger: usize, records: usize) -> [u8; 28]
-    ensures { result ≡ dg_parts next group trigger records }
+fn dg(next: usize, group: usize, records: usize) -> [u8; 28]
+    ensures { result ≡ dg_parts next group records }
 {
     [
         (Dg::ID % 256) as u8,
@@ -24,10 +24,10 @@ fn dg(next: usize, group: usize, trigger: usize, records: usize) -> [u8; 28]
         (group / 256 % 256) as u8,
         (group / 256 / 256 % 256) as u8,
         (group / 256 / 256 / 256 % 256) as u8,
-        (trigger % 256) as u8,
-        (trigger / 256 % 256) as u8,
-        (trigger / 256 / 256 % 256) as u8,
-        (trigger / 256 / 256 / 256 % 256) as u8,
+        0,
+        0,
+        0,
+        0,
         (records % 256) as u8,
         (records / 256 % 256) as u8,
         (records / 256 / 256 % 256) as u8,
@@ -43,11 +43,11 @@ fn dg(next: usize, group: usize, trigger: usize, records: usize) -> [u8; 28]
     ]
 }
 
-pub fn put_dg(out: &mut [u8], at: usize, next: usize, group: usize, trigger: usize, records: usize)
+pub fn put_dg(out: &mut [u8], at: usize, next: usize, group: usize, records: usize)
     requires { at + 28 ≤ length out.old }
-    ensures { Wrote out.old out.new at (dg_bytes next group trigger records) }
+    ensures { Wrote out.old out.new at (dg_bytes next group records) }
 {
-    let block = dg(next, group, trigger, records);
+    let block = dg(next, group, records);
     write::put_all(out, at, &block);
 }
 
@@ -252,37 +252,6 @@ pub fn put_hd(
     put_hd_head(out, at, size, first, comment, program, groups);
     write::put_part(out, at + 18, image, from, 146);
     write::put_padded(out, at + 164, image, from + 146, held, size - 164);
-}
-
-// ---- TR: a link and a count of its own, and bytes of the image
-
-fn put_tr_head(out: &mut [u8], at: usize, size: usize, comment: usize, events: usize)
-    requires { at + 10 ≤ length out.old }
-    ensures { Wrote out.old out.new at (tr_head size comment events) }
-{
-    let head: [u8; 10] = [
-        (Tr::ID % 256) as u8,
-        (Tr::ID / 256) as u8,
-        (size % 256) as u8,
-        (size / 256 % 256) as u8,
-        (comment % 256) as u8,
-        (comment / 256 % 256) as u8,
-        (comment / 256 / 256 % 256) as u8,
-        (comment / 256 / 256 / 256 % 256) as u8,
-        (events % 256) as u8,
-        (events / 256 % 256) as u8,
-    ];
-    write::put_all(out, at, &head);
-}
-
-// So many events, whose bytes `src` has from `from` on.
-pub fn put_tr(out: &mut [u8], at: usize, src: &[u8], from: usize, events: usize, comment: usize)
-    requires { (at + 10 + 24 * events ≤ length out.old) × (24 * events ≤ length src.now - from) }
-    ensures { Wrote out.old out.new at (tr_bytes comment events (take (24 * events) (drop from src.now))) }
-{
-    let len = Tr::EVENT * events;
-    put_tr_head(out, at, Tr::LEAST + len, comment, events);
-    write::put_part(out, at + Tr::LEAST, src, from, len);
 }
 
 // ---- TX, PR, CC and CE: all body

@@ -3,7 +3,7 @@
 use Prim.Native.Nat.{ℕ, zero, suc, ◌+◌, ◌-◌, ◌≤◌, ◌<◌}
 use mathlib.Core.Path.{◌≡◌, refl, sym, ◌∙◌, ap, ap₂}
 use mathlib.Core.List.{List, [], ◌∷◌, map}
-use mathlib.Core.Option.{Option, none}
+use mathlib.Core.Option.{none}
 use native.Mathlib.Omega.{arith}
 use lib.ListN.{length, take, length-map}
 use lib.Seq.{length-take-le}
@@ -11,7 +11,7 @@ use Rattle.spec.specs.Bytes.{u16, u32, to_link}
 use Rattle.spec.specs.Answer.{Answer, refused, accepted, ◌>>=◌, passed}
 use Rattle.spec.specs.Block.{Image, dg_kind, opening, Opened, DgBlock, read_dg}
 use Rattle.spec.specs.Records.{Logged, log_of}
-use Rattle.spec.specs.Found.{FoundGroup, FoundTrigger, FoundDataGroup, slot_of}
+use Rattle.spec.specs.Found.{FoundGroup, FoundDataGroup, slot_of}
 use Rattle.spec.specs.Walk.{channel_count, data_group_list}
 use Rattle.spec.proofs.Answers.{step, stop}
 use Rattle.image.specs.declared.Span.{Span}
@@ -66,12 +66,12 @@ module _ (image : Image) (d g n : ℕ) (b : Span) where
   abbrev logged : ℕ → List FoundGroup → Answer (List Logged)
   logged mode gs = log_of image.bytes mode (map slot_of gs) (b.at + 16) (to_link (u32 16 (block_in image.bytes b)))
 
-  groups_part : (trigger : Option FoundTrigger) (mode : ℕ) (m : Answer (List FoundGroup))
-      → passed (m >>= λ gs. logged mode gs >>= λ log. following (1024 - g - length gs) (16384 - n - channel_count gs) >>= λ rest. accepted (record { block = dg; trigger = trigger; groups = gs; log = log } ∷ rest))
+  groups_part : (mode : ℕ) (m : Answer (List FoundGroup))
+      → passed (m >>= λ gs. logged mode gs >>= λ log. following (1024 - g - length gs) (16384 - n - channel_count gs) >>= λ rest. accepted (record { block = dg; groups = gs; log = log } ∷ rest))
       ≡ ((summed [] n m >>= λ s. after (step_of (log_of image.bytes mode s.slots (b.at + 16) (to_link (u32 16 (block_in image.bytes b))))) (accepted (record { groups = g + length s.slots; channels = s.channels }))) >>= onwards)
   unfolding ◌>>=◌ data_groups_from
-  groups_part trigger mode (refused k p) = refl
-  groups_part trigger mode (accepted gs) =
+  groups_part mode (refused k p) = refl
+  groups_part mode (accepted gs) =
       let e : 1024 - g - length gs ≡ 1024 - (g + length (map slot_of gs)) = omega (arith, length-map gs slot_of) in
       let f : 16384 - n - channel_count gs ≡ 16384 - (n + channel_count gs) = omega arith in
       passed_then (logged mode gs) _ (passed (following (1024 - g - length gs) (16384 - n - channel_count gs))) (λ log. passed_more _ (following (1024 - g - length gs) (16384 - n - channel_count gs)))
@@ -85,7 +85,7 @@ module _ (image : Image) (d g n : ℕ) (b : Span) where
         let one : 1024 - d ≡ suc (1024 - (d + 1)) = omega arith in
         rw (not_nil b.at h, one)
         (ap passed (step _ (open_open dg_kind read_dg image field b.at b s) refl)
-        ∙ passed_then _ _ _ (λ trigger. passed_then _ _ _ (λ _. groups_part trigger (u16 22 (block_in image.bytes b)) _))
+        ∙ passed_then _ _ _ (λ _. passed_then _ _ _ (λ _. groups_part (u16 22 (block_in image.bytes b)) _))
         ∙ sym (after_bind _ _ onwards ∙ ap (after _) (after_bind _ _ onwards)))
 
 no_data_groups : (image : Image) (left gl cl field : ℕ) → data_group_list image left gl cl field none ≡ accepted []

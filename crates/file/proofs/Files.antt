@@ -1,6 +1,6 @@
 -- What the code's tests say of a data group, of ID and of the file.
 -- Assumes nothing.
-use Prim.Native.Nat.{ℕ, ◌+◌, ◌*◌, ◌≤◌, ◌<◌}
+use Prim.Native.Nat.{ℕ, ◌+◌, ◌≤◌, ◌<◌}
 use mathlib.Core.Path.{◌≡◌, refl, sym, ◌∙◌, ap}
 use mathlib.Core.Bool.{Bool, true, false, cond, ◌&&◌, ◌||◌}
 use mathlib.Core.List.{List}
@@ -11,8 +11,8 @@ use lib.Seq.{take-take}
 use borrow.Author.Tests.{le-leb, lt-leb, eq-eqb, ne_eqb}
 use Rattle.spec.specs.Bytes.{same_bytes, u16, u32, to_link}
 use Rattle.spec.specs.Answer.{Answer, refused, accepted, ◌>>=◌, require, passed}
-use Rattle.spec.specs.Block.{Image, image_of, hd_kind, tr_kind, tx_kind, pr_kind, finalized, unfinalized, opening, body_at, read_hd, read_tr}
-use Rattle.spec.specs.Walk.{ident_passes, trigger_at, file_from, walk}
+use Rattle.spec.specs.Block.{Image, image_of, hd_kind, tx_kind, pr_kind, finalized, unfinalized, opening, body_at, read_hd}
+use Rattle.spec.specs.Walk.{ident_passes, file_from, walk}
 use Rattle.spec.specs.Call.{outcome_of, check_outcome}
 use Rattle.spec.proofs.Answers.{step, pass, stop, fail}
 use Rattle.image.specs.declared.Span.{Span}
@@ -20,9 +20,9 @@ use Rattle.image.specs.declared.Block.TheVariants.{Shut}
 use Rattle.image.specs.declared.Step.{Step}
 use Rattle.image.specs.declared.Step.TheVariants.{Go, Stop}
 use Rattle.image.specs.Spans.{block_of, block_in, step_of}
-use Rattle.image.proofs.Blocks.{not_nil, Stands, open_shut, open_open}
+use Rattle.image.proofs.Blocks.{Stands, open_shut, open_open}
 use Rattle.walk.specs.Steps.{after}
-use Rattle.walk.proofs.Channels.{test_go, test_stop}
+use Rattle.walk.proofs.Channels.{nil_go, nil_stop, test_go, test_stop}
 use Rattle.file.specs.DataGroups.{groups_then_log, data_group_at, data_groups_from}
 use Rattle.file.proofs.DataGroups.{passed_then}
 
@@ -34,50 +34,21 @@ after_go : {A : Type 0} {s : Step} {m t : Answer A} → Go ≡ s → t ≡ m →
 unfolding after
 after_go e f = rw (sym e) f
 
--- ---- a trigger
-
-step_last : {A B : Type 0} (f : A → B) (m : Answer A) → step_of (m >>= λ a. accepted (f a)) ≡ step_of m
-unfolding ◌>>=◌
-step_last f (refused k p) = refl
-step_last f (accepted a) = refl
-
-module _ (image : Image) (field l : ℕ) where
-  pub trigger_none : l ≡ 0 → Go ≡ step_of (trigger_at image field (to_link l))
-  unfolding trigger_at
-  trigger_none e = rw e
-
-  module _ (h : l ≡ 0 → ⊥) where
-    pub trigger_shut : {k : ℕ} → Shut k ≡ block_of l (opening tr_kind image l) → Stop k field ≡ step_of (trigger_at image field (to_link l))
-    unfolding trigger_at
-    trigger_shut e = rw (not_nil l h) (sym (ap step_of (stop _ (open_shut tr_kind read_tr image field l e))))
-
-    module _ (b : Span) (s : Stands tr_kind image l b) where
-      pub trigger_short : b.size < 10 + 24 * u16 8 (block_in image.bytes b) → Stop 18 field ≡ step_of (trigger_at image field (to_link l))
-      unfolding trigger_at read_tr
-      trigger_short m = rw (not_nil l h) (sym (ap step_of (step _ (open_open tr_kind read_tr image field l b s) (stop _ (fail _ _ _ (lt-leb _ _ m))))))
-
-      pub trigger_comment : 10 + 24 * u16 8 (block_in image.bytes b) ≤ b.size
-          → step_of (body_at tx_kind image (b.at + 4) (to_link (u32 4 (block_in image.bytes b)))) ≡ step_of (trigger_at image field (to_link l))
-      unfolding trigger_at read_tr
-      trigger_comment m =
-          ap (λ p. step_of (body_at tx_kind image (p + 4) (to_link (u32 4 (block_in image.bytes b))))) s.place
-          ∙ rw (not_nil l h) (sym (ap step_of (step _ (open_open tr_kind read_tr image field l b s) (step _ (pass _ _ _ (le-leb _ _ m)) refl)) ∙ step_last _ _))
-
 -- ---- a data group
 
 module _ (image : Image) (g n : ℕ) (b : Span) where
-  pub trigger_stop : {k q : ℕ} → Stop k q ≡ step_of (trigger_at image (b.at + 12) (to_link (u32 12 (block_in image.bytes b)))) → refused k q ≡ data_group_at image g n b
+  pub trigger_stop : (u32 12 (block_in image.bytes b) ≡ 0 → ⊥) → refused 6 (b.at + 12) ≡ data_group_at image g n b
   unfolding data_group_at
-  trigger_stop e = after_stop _ e
+  trigger_stop d = after_stop _ (nil_stop _ _ _ d)
 
-  module _ (e : Go ≡ step_of (trigger_at image (b.at + 12) (to_link (u32 12 (block_in image.bytes b))))) where
+  module _ (e : u32 12 (block_in image.bytes b) ≡ 0) where
     pub mode_stop : 2 < u16 22 (block_in image.bytes b) → refused 8 (b.at + 22) ≡ data_group_at image g n b
     unfolding data_group_at
-    mode_stop h = after_go e (after_stop _ (test_stop _ _ _ (lt-leb _ _ h)))
+    mode_stop h = after_go (nil_go _ 6 (b.at + 12) e) (after_stop _ (test_stop _ _ _ (lt-leb _ _ h)))
 
     pub mode_go : u16 22 (block_in image.bytes b) ≤ 2 → groups_then_log image (u16 22 (block_in image.bytes b)) g n b ≡ data_group_at image g n b
     unfolding data_group_at
-    mode_go h = after_go e (after_go (test_go _ 8 (b.at + 22) (le-leb _ _ h)) refl)
+    mode_go h = after_go (nil_go _ 6 (b.at + 12) e) (after_go (test_go _ 8 (b.at + 22) (le-leb _ _ h)) refl)
 
 -- ---- ID
 

@@ -1,11 +1,11 @@
 -- What the walk over data groups gives, as the code keeps it.
 -- Assumes nothing.
 use Rattle.std.specs.Prelude.{ℕ, ◌+◌, ◌-◌, ◌≤◌, ◌≡◌, List, [], leb, length}
-use Rattle.spec.specs.Bytes.{u16, u32, to_link}
+use Rattle.spec.specs.Bytes.{u16, u32, to_link, is_nil}
 use Rattle.spec.specs.Answer.{Answer, refused, accepted, ◌>>=◌, require, passed}
 use Rattle.spec.specs.Block.{Image}
 use Rattle.spec.specs.Records.{log_of}
-use Rattle.spec.specs.Walk.{trigger_at, data_group_list}
+use Rattle.spec.specs.Walk.{data_group_list}
 use Rattle.spec.specs.Call.{Outcome, outcome_of}
 use Rattle.image.specs.declared.Span.{Span}
 use Rattle.image.specs.Spans.{block_in, step_of}
@@ -31,7 +31,7 @@ groups_then_log image mode g n b = do
 
 unfoldable pub data_group_at : Image → ℕ → ℕ → Span → Answer Counts
 data_group_at image g n b =
-    after (step_of (trigger_at image (b.at + 12) (to_link (u32 12 (block_in image.bytes b)))))
+    after (step_of (require (is_nil (to_link (u32 12 (block_in image.bytes b)))) 6 (b.at + 12)))
     (after (step_of (require (leb (u16 22 (block_in image.bytes b)) 2) 8 (b.at + 22)))
     (groups_then_log image (u16 22 (block_in image.bytes b)) g n b))
 

@@ -1,14 +1,13 @@
 // The data groups of a file, and the check of a whole image: refusals 1 to 11 and 17 to 19.
 ghost use Rattle.std.specs.Prelude.{◌≡◌, ◌+◌, ◌≤◌, ◌<◌, length, take};
-ghost use Rattle.spec.specs.Bytes.{to_link};
 ghost use Rattle.spec.specs.Answer.{passed};
 ghost use Rattle.spec.specs.Block.{image_of};
-ghost use Rattle.spec.specs.Walk.{ident_passes, trigger_at, file_from};
+ghost use Rattle.spec.specs.Walk.{ident_passes, file_from};
 ghost use Rattle.spec.specs.Call.{check_outcome};
 ghost use Rattle.image.specs.Spans.{Holds, step_of};
 ghost use Rattle.file.specs.DataGroups.{groups_then_log, data_group_at, counts_met, PastDataGroup, data_groups_from, answer_of, outcome};
 
-use image::{Block, Dg, Hd, Id, Pr, Span, Step, Tr, Tx};
+use image::{Block, Dg, Hd, Id, Pr, Span, Step, Tx};
 use walk::{Cursor, Walked};
 
 // ---- data groups
@@ -43,31 +42,14 @@ fn groups_then_log(image: &[u8], dg: Span, mode: usize, c: Cursor) -> Walked
     Walked::Done(d.past_dg(at + 4, image::u32_in(image, dg, 4)))
 }
 
-// The trigger behind its link in a DG block: its events and its comment.
-fn trigger(image: &[u8], field: usize, link: usize) -> Step
-    ensures { result ≡ step_of (trigger_at (image_of image.now) field (to_link link)) }
-{
-    if link == 0 {
-        return Step::Go;
-    }
-    let opened = Tr::open(image, link);
-    let Block::Open(tr) = opened else {
-        return Step::Stop(image::fault(opened), field);
-    };
-    if tr.size < Tr::LEAST + Tr::EVENT * image::u16_in(image, tr, 8) {
-        return Step::Stop(Block::SIZE, field);
-    }
-    Tx::body(image, tr.at + 4, image::u32_in(image, tr, 4))
-}
-
-// A data group: its trigger, its mode, then what it holds.
+// A data group: no trigger, a mode, then what it holds.
 fn data_group(image: &[u8], dg: Span, c: Cursor) -> Walked
     requires { Holds 24 image.now dg × (c.dgs < 1024) × (c.cgs ≤ 1024) × (c.cns ≤ 16384) }
     ensures { (counts_met result ≡ data_group_at (image_of image.now) c.cgs c.cns dg) × PastDataGroup image.now c dg result }
 {
     let at = dg.at;
-    if let Step::Stop(number, place) = trigger(image, at + 12, image::u32_in(image, dg, 12)) {
-        return Walked::Refused(number, place);
+    if image::u32_in(image, dg, 12) != 0 {
+        return Walked::Refused(6, at + 12);
     }
     let mode = image::u16_in(image, dg, 22);
     if 2 < mode {

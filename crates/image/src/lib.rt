@@ -1,7 +1,7 @@
 // Numbers, blocks and their fields. A block may be looked for at any place; a byte beyond the image's end reads as 0.
 ghost use Rattle.std.specs.Prelude.{◌≡◌, ◌+◌, ◌^◌, ◌≤◌, ◌<◌, length, take, get_or};
 ghost use Rattle.spec.specs.Bytes.{same_bytes, u16, u32, u64, to_link};
-ghost use Rattle.spec.specs.Block.{image_of, opening, body_at, hd_kind, dg_kind, tr_kind, cg_kind, cn_kind, cc_kind, tx_kind, pr_kind, ce_kind};
+ghost use Rattle.spec.specs.Block.{image_of, opening, body_at, hd_kind, dg_kind, cg_kind, cn_kind, cc_kind, tx_kind, pr_kind, ce_kind};
 ghost use Rattle.image.specs.Spans.{number_at, kind_of, block_of, fault_of, block_in, Inside, field_number, step_of, ident_block};
 
 // ---- numbers
@@ -74,8 +74,8 @@ impl Block {
     const HEAD: u32 = 5;
     // Its identifier is another.
     const IDENTIFIER: u32 = 17;
-    // Its size is below the least, or does not hold a trigger's events.
-    pub const SIZE: u32 = 18;
+    // Its size is below the least.
+    const SIZE: u32 = 18;
     // It ends beyond the image.
     const END: u32 = 19;
 }
@@ -243,24 +243,6 @@ impl Dg {
 
     pub fn open(image: &[u8], at: usize) -> Block
         ensures { result ≡ block_of at (opening dg_kind (image_of image.now) at) }
-    {
-        open_block(image, at, Self::ID, Self::LEAST)
-    }
-}
-
-// A trigger: its least size, without events, and the bytes of each event.
-#[derive(Drop)]
-pub struct Tr;
-
-impl Tr {
-    pub const ID: u64 = 0x5254;
-
-    pub const LEAST: usize = 10;
-
-    pub const EVENT: usize = 24;
-
-    pub fn open(image: &[u8], at: usize) -> Block
-        ensures { result ≡ block_of at (opening tr_kind (image_of image.now) at) }
     {
         open_block(image, at, Self::ID, Self::LEAST)
     }

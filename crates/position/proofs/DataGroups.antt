@@ -12,7 +12,7 @@ use Rattle.spec.specs.Block.{image_of, dg_kind, opening, read_dg}
 use Rattle.spec.specs.Found.{FoundDataGroup}
 use Rattle.spec.specs.Walk.{data_group_list, channel_count}
 use lib.ListN.{length}
-use Rattle.spec.proofs.Answers.{stop, Gives, gives, bind, test}
+use Rattle.spec.proofs.Answers.{stop, Gives, gives, bind, test, anything}
 use Rattle.image.specs.declared.Span.{Span}
 use Rattle.image.specs.declared.Block.TheVariants.{Shut}
 use Rattle.image.specs.Spans.{block_of, block_in, opened_as}
@@ -44,17 +44,17 @@ module _ (image : List ℕ) where
     unfolding data_group_list read_dg
     list_gives left b few s =
         gives_step _ (open_open dg_kind read_dg (image_of image) field l b s)
-        (bind _ (self _) λ trigger e₀.
+        (bind _ (anything _) λ _ _.
         bind _ (test _ _ _) λ _ t.
         bind _ (self _) λ groups e₁.
         bind _ (self _) λ log e₂.
         bind _ (self _) λ more e₃.
         let one : suc left - 1 ≡ left = omega arith in
         gives _ (record {
-          data_group = record { block = opened_as read_dg image b; trigger = trigger; groups = groups; log = log };
+          data_group = record { block = opened_as read_dg image b; groups = groups; log = log };
           more = more;
           is = refl;
-          found = record { block = refl; holds = record { inside = s.inside; least = s.least }; trigger_field = l + 12; trigger = e₀; mode = leb-true _ _ t; groups_left = gl; few = few; channels_left = cl; groups_field = l + 8; groups = e₁; log_field = l + 16; log = e₂ };
+          found = record { block = refl; holds = record { inside = s.inside; least = s.least }; mode = leb-true _ _ t; groups_left = gl; few = few; channels_left = cl; groups_field = l + 8; groups = e₁; log_field = l + 16; log = e₂ };
           some_left = omega arith;
           groups_behind = gl - length groups;
           few = omega (arith, few);

@@ -1,6 +1,5 @@
 pub mod Lists
 pub mod Bodies
-pub mod Triggers
 pub mod Channels
 pub mod Groups
 pub mod DataGroups

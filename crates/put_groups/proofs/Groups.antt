@@ -10,10 +10,10 @@ use mathlib.Core.Option.{Option}
 use native.Mathlib.Omega.{arith}
 use native.Mathlib.Nat.{zero-mul, suc-mul}
 use lib.ListN.{length, length-append}
-use Rattle.answers.specs.Readings.{All, join, target, tx_kind, Trigger, TriggerFits, WellFormedGroup}
+use Rattle.answers.specs.Readings.{All, join, target, tx_kind, WellFormedGroup}
 use Rattle.answers.specs.Readings.{Group as ReadGroup}
-use Rattle.answers.specs.Copies.{link_to, link_to_first, body_length, body_bytes, channels_length, channels_bytes, records_length, trigger_length, trigger_bytes, group_length, group_bytes, groups_bytes, cg_place, channels_place, records_place, dg_of, cg_of}
-use Rattle.answers.proofs.Laws.{length_body, length_channels, length_trigger, length_group}
+use Rattle.answers.specs.Copies.{link_to, link_to_first, body_length, body_bytes, channels_length, channels_bytes, records_length, group_length, group_bytes, groups_bytes, dg_of, cg_of}
+use Rattle.answers.proofs.Laws.{length_body, length_channels, length_group}
 use Rattle.blocks.specs.Blocks.{dg_bytes, cg_bytes}
 use Rattle.blocks.proofs.Written.{dg_written_lem, cg_written_lem}
 use Rattle.write.specs.Write.{Wrote, then, wrote_as}
@@ -32,8 +32,7 @@ use Rattle.put_channels.specs.declared.Sum.{Sum}
 use Rattle.put_channels.specs.Written.{written_bytes}
 use Rattle.put_channels.specs.Channels.{Capped}
 use Rattle.put_channels.proofs.Written.{written_bytes_lem}
-use Rattle.put_groups.specs.Groups.{link_if, PlacesAre, data_group_as, heads_as, blocks_as, group_as, ChannelsSum, Known}
-use Rattle.put_groups.specs.declared.Places.{Places}
+use Rattle.put_groups.specs.Groups.{link_if, heads_as, blocks_as, group_as, ChannelsSum, Known}
 
 -- ---- lengths
 
@@ -57,18 +56,18 @@ records_length_lem size [] a = sym (zero-mul size)
 records_length_lem size (r ∷ rs) a = ap₂ ◌+◌ a.0 (records_length_lem size rs a.1) ∙ sym (suc-mul (length rs) size ∙ omega arith)
 
 -- of a group, from the sum over its channels
-module _ (g : ReadGroup) (ok : WellFormedGroup g) (trigger text sum count size : ℕ) (u : trigger ≡ trigger_length g.trigger) (t : text ≡ body_length g.comment) (s : Capped sum (channels_length g.channels)) (c : count ≡ length g.records) (z : size ≡ g.record_size) where
-  added : group_length g ≡ 58 + trigger + text + channels_length g.channels + count * size
+module _ (g : ReadGroup) (ok : WellFormedGroup g) (text sum count size : ℕ) (t : text ≡ body_length g.comment) (s : Capped sum (channels_length g.channels)) (c : count ≡ length g.records) (z : size ≡ g.record_size) where
+  added : group_length g ≡ 58 + text + channels_length g.channels + count * size
   added =
       let r : records_length g.records ≡ count * size = records_length_lem g.record_size g.records ok.records ∙ ap₂ ◌*◌ (sym c) (sym z) in
-      omega (arith, u, t, r)
+      omega (arith, t, r)
 
-  pub group_exact : 58 + trigger + text + sum + count * size ≤ 2147483647 → Capped (58 + trigger + text + sum + count * size) (group_length g)
+  pub group_exact : 58 + text + sum + count * size ≤ 2147483647 → Capped (58 + text + sum + count * size) (group_length g)
   group_exact h =
       let e = capped_exact s (omega arith) in
-      record { exact = λ m. ap (λ k. 58 + trigger + text + k + count * size) e ∙ sym added; over = λ m. absurd (omega (arith, added, e)) }
+      record { exact = λ m. ap (λ k. 58 + text + k + count * size) e ∙ sym added; over = λ m. absurd (omega (arith, added, e)) }
 
-  pub group_over : 2147483647 < 58 + trigger + text + sum + count * size → Capped 2147483648 (group_length g)
+  pub group_over : 2147483647 < 58 + text + sum + count * size → Capped 2147483648 (group_length g)
   group_over h = record { exact = λ m. absurd (omega (arith, added, s.exact (omega (arith, added)))); over = λ _. omega arith }
 
 -- ---- bytes
@@ -79,50 +78,36 @@ link_if_lem p (x ∷ xs) = refl
 
 -- the bytes of a group by the definition
 group_as_lem : (at : ℕ) (next : Option ℕ) (g : ReadGroup) → group_bytes at next g ≡ group_as at (target next) g
-unfolding group_bytes group_as blocks_as heads_as data_group_as
+unfolding group_bytes group_as blocks_as heads_as
 group_as_lem at next g =
-    ap₂ (λ x y. x ++ (trigger_bytes (at + 28) g.trigger ++ (y ++ rest))) (dg_written_lem (dg_of at next g) refl) (cg_written_lem (length g.channels) (cg_of at g) refl refl refl)
-    ∙ rw (append-nil (join g.records), append_assoc, append_assoc, append_assoc, append_assoc)
+    let e : at + 28 + 30 ≡ at + 58 = omega arith in
+    ap₂ (λ x y. x ++ (y ++ rest)) (dg_written_lem (dg_of at next g) refl refl) (cg_written_lem (length g.channels) (cg_of at g) refl refl refl)
+    ∙ rw (e, append-nil (join g.records), append_assoc, append_assoc, append_assoc)
   where
     rest : List ℕ
-    rest = body_bytes tx_kind g.comment ++ (channels_bytes (channels_place at g) g.channels ++ (join g.records ++ []))
+    rest = body_bytes tx_kind g.comment ++ (channels_bytes (at + 28 + 30 + body_length g.comment) g.channels ++ (join g.records ++ []))
 
-pub dg_length : (next group trigger records : ℕ) → length (dg_bytes next group trigger records) ≡ 28
-unfolding dg_bytes
-dg_length next group trigger records = refl
+heads_length : (at next : ℕ) (g : ReadGroup) → length (heads_as at next g) ≡ 58
+unfolding heads_as dg_bytes cg_bytes
+heads_length at next g = refl
 
-cg_length : (first text n size count : ℕ) → length (cg_bytes first text n size count) ≡ 30
-unfolding cg_bytes
-cg_length first text n size count = refl
-
-data_group_length : (at next group records : ℕ) (t : Option Trigger) → TriggerFits t → length (data_group_as at next group records t) ≡ 28 + trigger_length t
-unfolding data_group_as
-data_group_length at next group records t ok =
-    length-append (dg_bytes next group (target (link_to (at + 28) t)) records) (trigger_bytes (at + 28) t) ∙ ap₂ ◌+◌ (dg_length next group (target (link_to (at + 28) t)) records) (length_trigger (at + 28) t ok)
-
-heads_length : (at next : ℕ) (g : ReadGroup) → WellFormedGroup g → length (heads_as at next g) ≡ 58 + trigger_length g.trigger
+pub heads_as_lem : (at next cn m recs first text n size count : ℕ) (g : ReadGroup)
+    → cn ≡ at + 58 + body_length g.comment
+    → m ≡ channels_length g.channels
+    → recs ≡ link_if count (cn + m)
+    → first ≡ link_if n cn
+    → text ≡ target (link_to (at + 58) g.comment)
+    → n ≡ length g.channels
+    → size ≡ g.record_size
+    → count ≡ length g.records
+    → dg_bytes next (at + 28) recs ++ cg_bytes first text n size count ≡ heads_as at next g
 unfolding heads_as
-heads_length at next g ok =
-    let l = data_group_length at next (cg_place at g) (target (link_to_first (records_place at g) g.records)) g.trigger ok.trigger in
-    rw (length-append, cg_length) (omega (arith, l))
+heads_as_lem at next cn m recs first text n size count g e₁ e₂ e₃ e₄ e₅ e₆ e₇ e₈ =
+    rw (e₃, e₄, e₅, e₁, e₂, e₆, e₇, e₈, link_if_lem, link_if_lem)
 
-module _ (at next recs first text n size count : ℕ) (g : ReadGroup) (ok : WellFormedGroup g) (p : Places) (at_places : PlacesAre at g p) where
-  pub heads_written : {o₀ o₁ o₂ : List ℕ}
-      → recs ≡ link_if count p.records
-      → first ≡ link_if n p.cn
-      → text ≡ target (link_to p.tx g.comment)
-      → n ≡ length g.channels
-      → size ≡ g.record_size
-      → count ≡ length g.records
-      → Wrote o₀ o₁ at (data_group_as at next p.cg recs g.trigger)
-      → Wrote o₁ o₂ p.cg (cg_bytes first text n size count)
-      → Wrote o₀ o₂ at (heads_as at next g)
-  unfolding heads_as
-  heads_written e₁ e₂ e₃ e₄ e₅ e₆ w₁ w₂ =
-      let l = data_group_length at next p.cg recs g.trigger ok.trigger in
-      let q = at_places in
-      wrote_as (then w₁ w₂ (omega (arith, l, q.cg))) refl
-      (rw (e₁, e₂, e₃, q.cg, q.records, q.cn, q.tx, e₄, e₅, e₆, link_if_lem, link_if_lem))
+pub dg_length : (next group records : ℕ) → length (dg_bytes next group records) ≡ 28
+unfolding dg_bytes
+dg_length next group records = refl
 
 -- ---- writing
 
@@ -130,27 +115,27 @@ pub known_of : (image : List ℕ) (g : Group) (text : Body) (sum : Sum) → AtGr
     → ChannelsSum image g sum → group_length (the_group image g) ≤ 2147483647 → Known image g text sum
 known_of image g text sum s b m h = record { stands = s; comment = b; long = m.length.exact (omega arith); many = m.count (omega arith) }
 
-module _ (image : List ℕ) (at next : ℕ) (text : Body) (g : ReadGroup) (ok : WellFormedGroup g) (b : BodyIs image text g.comment) (p : Places) (q : PlacesAre at g p) where
+module _ (image : List ℕ) (at next cn m : ℕ) (text : Body) (g : ReadGroup) (ok : WellFormedGroup g) (b : BodyIs image text g.comment) (e : cn ≡ at + 58 + body_length g.comment) (f : m ≡ channels_length g.channels) where
   pub blocks_written : {o₀ o₁ o₂ o₃ : List ℕ}
       → Wrote o₀ o₁ at (heads_as at next g)
-      → Wrote o₁ o₂ p.tx (written_bytes 84 88 image text)
-      → Wrote o₂ o₃ p.cn (channels_bytes p.cn g.channels)
+      → Wrote o₁ o₂ (at + 58) (written_bytes 84 88 image text)
+      → Wrote o₂ o₃ cn (channels_bytes cn g.channels)
       → Wrote o₀ o₃ at (blocks_as at next g)
   unfolding blocks_as
   blocks_written w₁ w₂ w₃ =
-      let l₁ = heads_length at next g ok in
+      let l₁ = heads_length at next g in
       let l₂ = length_body tx_kind g.comment in
       then
-      (then w₁ (wrote_as w₂ refl (written_bytes_lem tx_kind image text b)) (omega (arith, l₁, q.tx)))
-      (wrote_as w₃ refl (ap (λ p. channels_bytes p g.channels) q.cn)) (rw length-append (omega (arith, l₁, l₂, q.cn)))
+      (then w₁ (wrote_as w₂ refl (written_bytes_lem tx_kind image text b)) (omega (arith, l₁)))
+      (wrote_as w₃ refl (ap (λ p. channels_bytes p g.channels) e)) (rw length-append (omega (arith, l₁, l₂, e)))
 
-  pub blocks_end : p.records ≡ at + length (blocks_as at next g)
+  pub blocks_end : cn + m ≡ at + length (blocks_as at next g)
   unfolding blocks_as
   blocks_end =
-      let l₁ = heads_length at next g ok in
+      let l₁ = heads_length at next g in
       let l₂ = length_body tx_kind g.comment in
-      let l₃ = length_channels g.record_size (channels_place at g) g.channels ok.channels in
-      rw (length-append, length-append) (omega (arith, l₁, l₂, l₃, q.records))
+      let l₃ = length_channels g.record_size (at + 58 + body_length g.comment) g.channels ok.channels in
+      rw (length-append, length-append) (omega (arith, l₁, l₂, l₃, e, f))
 
 -- the first of a list of groups, and the rest behind it
 groups_cons : (p q : ℕ) (g : ReadGroup) (gs : List ReadGroup) → q ≡ p + group_length g → groups_bytes p (g ∷ gs) ≡ group_as p (target (link_to_first q gs)) g ++ groups_bytes q gs

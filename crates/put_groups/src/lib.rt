@@ -1,11 +1,11 @@
 // The groups of a file: the length of their blocks and records, and both written.
-ghost use Rattle.std.specs.Prelude.{◌≡◌, [], ◌+◌, ◌≤◌, ◌<◌, length};
+ghost use Rattle.std.specs.Prelude.{◌≡◌, [], ◌+◌, ◌≤◌, length};
 ghost use Rattle.write.specs.Write.{Wrote};
 ghost use Rattle.answers.specs.Readings.{target};
-ghost use Rattle.answers.specs.Copies.{link_to_first, trigger_length, group_length, groups_length, groups_bytes};
+ghost use Rattle.answers.specs.Copies.{link_to_first, group_length, groups_length, groups_bytes};
 ghost use Rattle.reading.specs.Steps.{AtGroups, AtGroup, AtKeys, groups_left, the_group};
 ghost use Rattle.put_channels.specs.Channels.{Capped, SumIs};
-ghost use Rattle.put_groups.specs.Groups.{link_if, PlacesAre, data_group_as, heads_as, blocks_as, ChannelsSum, Known};
+ghost use Rattle.put_groups.specs.Groups.{link_if, heads_as, blocks_as, ChannelsSum, Known};
 
 use put_channels::Sum;
 use reading::{Body, Group, GroupStep, Groups};
@@ -25,9 +25,8 @@ fn group_length(image: &[u8], g: Group, sum: Sum) -> usize
     requires { AtGroup image.now g × ChannelsSum image.now g sum }
     ensures { Capped result (group_length (the_group image.now g)) × (58 ≤ result) × (result ≤ 2147483648) }
 {
-    let trigger = put_triggers::trigger_length(image, g);
     let comment = put_channels::body_length(g.comment(image));
-    let n = 58 + trigger + comment + sum.length + g.count(image) * g.size(image);
+    let n = 58 + comment + sum.length + g.count(image) * g.size(image);
     if 2147483647 < n {
         return 2147483648;
     }
@@ -44,52 +43,7 @@ pub fn link_if(n: usize, at: usize) -> usize
     at
 }
 
-// Where the parts of a group stand.
-#[derive(Drop)]
-struct Places {
-    cg: usize,
-    tx: usize,
-    cn: usize,
-    records: usize,
-}
-
-// Its DG block at a place.
-fn places_of(image: &[u8], at: usize, g: Group, comment: Body, sum: Sum) -> Places
-    requires { Known image.now g comment sum × (group_length (the_group image.now g) ≤ 2147483647) × (at < 9223372036854775808) }
-    ensures { PlacesAre at (the_group image.now g) result }
-{
-    let cg = at + 28 + put_triggers::trigger_length(image, g);
-    let tx = cg + 30;
-    let cn = tx + put_channels::body_length(comment);
-    let records = cn + sum.length;
-    Places {
-        cg,
-        tx,
-        cn,
-        records,
-    }
-}
-
-// The DG block of a group, and the trigger behind it.
-fn put_data_group(
-    out: &mut [u8],
-    at: usize,
-    image: &[u8],
-    g: Group,
-    next: usize,
-    cg: usize,
-    records: usize,
-)
-    requires { AtGroup image.now g × (at + 28 + trigger_length (the_group image.now g).trigger ≤ length out.old) }
-    ensures { Wrote out.old out.new at (data_group_as at next cg records (the_group image.now g).trigger) }
-{
-    let tr = at + 28;
-    let link = put_triggers::trigger_link(image, g, tr);
-    blocks::put_dg(out, at, next, cg, link, records);
-    put_triggers::put_trigger(out, tr, image, g);
-}
-
-// The DG block of a group, its trigger and its CG block.
+// The DG block of a group and its CG block.
 fn put_heads(
     out: &mut [u8],
     at: usize,
@@ -97,19 +51,19 @@ fn put_heads(
     g: Group,
     comment: Body,
     sum: Sum,
-    p: Places,
     next: usize,
 )
-    requires { Known image.now g comment sum × PlacesAre at (the_group image.now g) p × (at + group_length (the_group image.now g) ≤ length out.old) }
+    requires { Known image.now g comment sum × (at + group_length (the_group image.now g) ≤ length out.old) }
     ensures { Wrote out.old out.new at (heads_as at next (the_group image.now g)) }
 {
+    let tx = at + 58;
+    let cn = tx + put_channels::body_length(comment);
     let count = g.count(image);
-    let records = link_if(count, p.records);
-    put_data_group(out, at, image, g, next, p.cg, records);
+    blocks::put_dg(out, at, next, at + 28, link_if(count, cn + sum.length));
     let channels = sum.count;
-    let first = link_if(channels, p.cn);
-    let text = put_channels::body_link(comment, p.tx);
-    blocks::put_cg(out, p.cg, first, text, channels, g.size(image), count);
+    let first = link_if(channels, cn);
+    let text = put_channels::body_link(comment, tx);
+    blocks::put_cg(out, at + 28, first, text, channels, g.size(image), count);
 }
 
 // A group with all that it holds but its records, and the link to the next one; and where its records are to stand.
@@ -118,11 +72,12 @@ fn put_blocks(out: &mut [u8], at: usize, image: &[u8], g: Group, sum: Sum, next:
     ensures { Wrote out.old out.new at (blocks_as at next (the_group image.now g)) × (result ≡ at + length (blocks_as at next (the_group image.now g))) }
 {
     let comment = g.comment(image);
-    let p = places_of(image, at, g, comment, sum);
-    put_heads(out, at, image, g, comment, sum, p, next);
-    put_channels::put_body(out, p.tx, image, comment, blocks::tx_kind);
-    put_channels::put_channels(out, p.cn, image, g.channels(image));
-    p.records
+    put_heads(out, at, image, g, comment, sum, next);
+    let tx = at + 58;
+    put_channels::put_body(out, tx, image, comment, blocks::tx_kind);
+    let cn = tx + put_channels::body_length(comment);
+    put_channels::put_channels(out, cn, image, g.channels(image));
+    cn + sum.length
 }
 
 // ---- the groups

@@ -1,5 +1,4 @@
 mod Bodies
-mod Triggers
 mod Later
 pub mod Numbers
 pub mod Promise

@@ -4,18 +4,15 @@ use Prim.Native.Nat.{ℕ, ◌-◌, ◌≤◌}
 use mathlib.Core.Path.{◌≡◌, refl, ap₂, ◌∙◌}
 use mathlib.Core.Bool.{Bool, true, false, ◌&&◌}
 use mathlib.Core.List.{List}
-use mathlib.Core.Option.{Option}
 use native.Mathlib.Omega.{arith}
 use lib.ListN.{length}
 use borrow.Author.Tests.{eq-eqb, ne_eqb}
 use Rattle.answers.specs.Readings.{Channel, Group, Reading}
-use Rattle.answers.specs.Readings.{Body as ReadBody, Trigger as ReadTrigger}
-use Rattle.answers.specs.Differences.{same_bytes, same_body, same_trigger, same_channel, same_own, same_header}
+use Rattle.answers.specs.Readings.{Body as ReadBody}
+use Rattle.answers.specs.Differences.{same_bytes, same_body, same_channel, same_own, same_header}
 use Rattle.reading.specs.declared.Body.{Body}
 use Rattle.reading.specs.declared.Body.TheVariants.{Present}
-use Rattle.reading.specs.declared.Trigger.{Trigger}
-use Rattle.reading.specs.declared.Trigger.TheVariants.{Events}
-use Rattle.reading.specs.Steps.{body_held, BodyInside, BodyIs, trigger_held, TriggerInside, TriggerIs}
+use Rattle.reading.specs.Steps.{body_held, BodyInside, BodyIs}
 use Rattle.same_parts.specs.Same.{same_fields, same_bodies}
 
 -- the first differ
@@ -29,13 +26,6 @@ first_same e f = rw e f
 -- two bodies by where they stand
 pub by_place : {a b : List ℕ} {x y : Body} {p q : ReadBody} {r : Bool} → r ≡ same_body (body_held a x) (body_held b y) → BodyIs a x p → BodyIs b y q → r ≡ same_body p q
 by_place e u v = e ∙ ap₂ (λ p q. same_body p q) u.is v.is
-
--- and two triggers
-pub trigger_by_place : {a b : List ℕ} {x y : Trigger} {p q : Option ReadTrigger} {r : Bool} → r ≡ same_trigger (trigger_held a x) (trigger_held b y) → TriggerIs a x p → TriggerIs b y q → r ≡ same_trigger p q
-trigger_by_place e u v = e ∙ ap₂ (λ p q. same_trigger p q) u.is v.is
-
-pub trigger_inside : (image : List ℕ) {x : Trigger} {at n : ℕ} {comment : Body} → x ≡ Events at n comment → TriggerInside image x → TriggerInside image (Events at n comment)
-trigger_inside image e i = rw e at i
 
 pub inside : (image : List ℕ) {x : Body} {at n : ℕ} → x ≡ Present at n → BodyInside image x → n ≤ length image - at
 inside image e i = let j = rw e at i in omega (arith, j.0)
@@ -51,18 +41,13 @@ channel_parts c d = go (same_bytes c.fields.main d.fields.main) (same_bytes c.fi
     go false q r s t u v = refl
 
 module _ (g h : Group) where
-  pub size_other : (g.record_size ≡ h.record_size → ⊥) → false ≡ same_own g h
+  pub own_other : (g.record_size ≡ h.record_size → ⊥) → false ≡ same_own g h
   unfolding same_own
-  size_other d = rw (ne_eqb g.record_size h.record_size d)
+  own_other d = rw (ne_eqb g.record_size h.record_size d)
 
-  module _ (e : g.record_size ≡ h.record_size) where
-    pub comment_other : same_body g.comment h.comment ≡ false → false ≡ same_own g h
-    unfolding same_own
-    comment_other f = rw (eq-eqb g.record_size h.record_size e, f)
-
-    pub own_by : {r : Bool} → same_body g.comment h.comment ≡ true → r ≡ same_trigger g.trigger h.trigger → r ≡ same_own g h
-    unfolding same_own
-    own_by f t = rw (eq-eqb g.record_size h.record_size e, f) t
+  pub own_by : {r : Bool} → g.record_size ≡ h.record_size → r ≡ same_body g.comment h.comment → r ≡ same_own g h
+  unfolding same_own
+  own_by e f = rw (eq-eqb g.record_size h.record_size e) f
 
 module _ (r s : Reading) where
   pub header_other : same_bytes r.plain s.plain ≡ false → false ≡ same_header r s

@@ -1,11 +1,11 @@
 // Parts of the readings of two accepted images compared.
 ghost use Rattle.std.specs.Prelude.{◌≡◌};
-ghost use Rattle.answers.specs.Differences.{same_bytes, same_body, same_trigger, same_channel, same_own, same_header};
+ghost use Rattle.answers.specs.Differences.{same_bytes, same_body, same_channel, same_own, same_header};
 ghost use Rattle.reading.specs.Promise.{image_reading};
-ghost use Rattle.reading.specs.Steps.{body_held, BodyInside, trigger_held, TriggerInside, AtFile, AtGroup, AtChannel, the_group, the_channel};
+ghost use Rattle.reading.specs.Steps.{body_held, BodyInside, AtFile, AtGroup, AtChannel, the_group, the_channel};
 ghost use Rattle.same_parts.specs.Same.{same_fields, same_bodies, later_length};
 
-use reading::{Body, Channel, File, Group, Trigger};
+use reading::{Body, Channel, File, Group};
 
 fn same_body(a: &[u8], x: Body, b: &[u8], y: Body) -> bool
     requires { BodyInside a.now x × BodyInside b.now y }
@@ -70,26 +70,7 @@ pub fn same_channel(a: &[u8], x: Channel, b: &[u8], y: Channel) -> bool
 
 // ---- groups
 
-// The events and the comments of two triggers.
-fn same_trigger(a: &[u8], x: Trigger, b: &[u8], y: Trigger) -> bool
-    requires { TriggerInside a.now x × TriggerInside b.now y }
-    ensures { result ≡ same_trigger (trigger_held a.now x) (trigger_held b.now y) }
-{
-    match x {
-        Trigger::NoTrigger => match y {
-            Trigger::NoTrigger => true,
-            Trigger::Events(_to, _m, _other) => false,
-        },
-        Trigger::Events(at, n, comment) => match y {
-            Trigger::NoTrigger => false,
-            Trigger::Events(to, m, other) => {
-                alike::same_part(a, at, 24 * n, b, to, 24 * m) && same_body(a, comment, b, other)
-            }
-        },
-    }
-}
-
-// The record size, the comment and the trigger of two groups.
+// The record size and the comment of two groups.
 pub fn same_own(a: &[u8], g: Group, b: &[u8], h: Group) -> bool
     requires { AtGroup a.now g × AtGroup b.now h }
     ensures { result ≡ same_own (the_group a.now g) (the_group b.now h) }
@@ -97,10 +78,7 @@ pub fn same_own(a: &[u8], g: Group, b: &[u8], h: Group) -> bool
     if g.size(a) != h.size(b) {
         return false;
     }
-    if !same_body(a, g.comment(a), b, h.comment(b)) {
-        return false;
-    }
-    same_trigger(a, g.trigger(a), b, h.trigger(b))
+    same_body(a, g.comment(a), b, h.comment(b))
 }
 
 // ---- files

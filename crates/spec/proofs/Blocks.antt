@@ -1,6 +1,6 @@
 -- A written block is read back by its fields.
 -- Assumes nothing.
-use Prim.Native.Nat.{ℕ, ◌+◌, ◌*◌, ◌≤◌, ◌<◌}
+use Prim.Native.Nat.{ℕ, ◌+◌, ◌≤◌, ◌<◌}
 use mathlib.Core.Path.{◌≡◌, refl, sym, ◌∙◌, ap}
 use mathlib.Core.Bool.{Bool, true, false, cond}
 use mathlib.Core.List.{List, [], ◌∷◌, ◌++◌, append-nil}
@@ -11,7 +11,7 @@ use lib.ListN.{length, take, drop, length-append, length-drop, take-append-drop}
 use lib.Seq.{take_at, drop-drop, take_all}
 use Rattle.spec.specs.Bytes.{number, join, field, to_link, link_bytes}
 use Rattle.spec.specs.Answer.{accepted}
-use Rattle.spec.specs.Block.{Image, hd_kind, dg_kind, tr_kind, cg_kind, cn_kind, open_as, hd_written, dg_written, tr_written, cg_written, cn_written, HdBlock, read_hd, write_hd, DgBlock, read_dg, write_dg, TrBlock, read_tr, write_tr, CgBlock, read_cg, write_cg, CnBlock, read_cn, write_cn}
+use Rattle.spec.specs.Block.{Image, hd_kind, dg_kind, cg_kind, cn_kind, open_as, hd_written, dg_written, cg_written, cn_written, HdBlock, read_hd, write_hd, DgBlock, read_dg, write_dg, CgBlock, read_cg, write_cg, CnBlock, read_cn, write_cn}
 use Rattle.spec.proofs.Places.{At, LinkFits, link_back, field_in, drop_past, number_2, number_4, open_at}
 
 -- a link field that is read from these bytes
@@ -48,40 +48,6 @@ open_dg image link_field p dg ok a =
 pub length_dg : (dg : DgBlock) → length (write_dg dg) ≡ dg_written
 unfolding write_dg
 length_dg dg = refl
-
--- ---- TR
-
-pub record TrFits (tr : TrBlock) : Type 0 where
-  pub comment : LinkFits tr.comment
-  pub whole : length tr.events ≡ 24 * tr.count
-  pub size : tr_written tr.count < 65536
-
-module _ (tr : TrBlock) (ok : TrFits tr) where
-  pub length_tr : length (write_tr tr) ≡ tr_written tr.count
-  unfolding write_tr
-  length_tr = simp length-append (omega (arith, ok.whole))
-
-  tr_early : (n off : ℕ) → off + n ≤ 10 → field n off (write_tr tr) ≡ take n (drop off (write_tr tr))
-  tr_early n off h = field_in n off (write_tr tr) (omega (arith, length_tr))
-
-  tr_count : number (field 2 8 (write_tr tr)) ≡ tr.count
-  unfolding write_tr
-  tr_count = ap number (tr_early 2 8 (omega arith)) ∙ number_2 tr.count (omega (arith, ok.size))
-
-  tr_back : read_tr (write_tr tr) ≡ tr
-  unfolding read_tr write_tr
-  tr_back =
-      λ i.
-      record {
-        comment = link_at (tr_early 4 4 (omega arith)) (link_back tr.comment ok.comment) i;
-        count = tr_count i;
-        events = (ap (λ n. take (24 * n) (tr.events ++ [])) tr_count ∙ take_at tr.events [] (24 * tr.count) ok.whole) i;
-      }
-
-  pub open_tr : (image : Image) (link_field p : ℕ) → At image.bytes p (write_tr tr) → open_as tr_kind read_tr image link_field p ≡ accepted (record { place = p; size = tr_written tr.count; content = tr })
-  unfolding write_tr
-  open_tr image link_field p a =
-      open_at tr_kind image link_field p (tr_written tr.count) _ ok.size a read_tr tr (omega (arith, length_tr)) (omega arith) tr_back
 
 -- ---- CG
 

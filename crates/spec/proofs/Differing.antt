@@ -4,16 +4,16 @@ use Prim.Native.Nat.{ℕ, suc, ◌*◌, ◌≤◌}
 use mathlib.Core.Path.{◌≡◌, refl, sym, ◌∙◌, ap, subst}
 use mathlib.Core.Bool.{Bool, true, false, true≢false}
 use mathlib.Core.List.{List, [], ◌∷◌, ◌++◌, map}
-use mathlib.Core.Option.{Option, none, some}
+use mathlib.Core.Option.{none, some}
 use native.Mathlib.Omega.{arith}
 use lib.ListN.{length, length-append}
 use borrow.Author.Tests.{eqb-true, eq-eqb, leb-true, le-leb, lt-leb}
 use Rattle.spec.specs.Bytes.{Bytes, bytes_of, join}
 use Rattle.spec.specs.Answer.{Answer, refused, accepted}
-use Rattle.spec.specs.Reading.{Body, Channel, Trigger, Group, Reading}
+use Rattle.spec.specs.Reading.{Body, Channel, Group, Reading}
 use Rattle.spec.specs.Walk.{reads, most}
 use Rattle.spec.specs.Canonical.{copy_length, canonical_copy}
-use Rattle.spec.specs.Differences.{Entry, entry_bytes, unless, same_body, same_channel, same_trigger, same_own, same_header, alone, file_entries, channel_entries, record_entries, group_entries, groups_alone, groups_entries, differences, list_length, list_bytes}
+use Rattle.spec.specs.Differences.{Entry, entry_bytes, unless, same_body, same_channel, same_own, same_header, alone, file_entries, channel_entries, record_entries, group_entries, groups_alone, groups_entries, differences, list_length, list_bytes}
 use Rattle.spec.specs.Call.{copying, copied, copy_outcome, Pair, comparing, compared, compare_outcome}
 use Rattle.spec.specs.Demand3.{Copyable, Room}
 use Rattle.spec.specs.Differing.{DifferenceIsTheFirst, NoDifferenceExactlyWhenEqual, ListIsSymmetric, ListHasTheLength, ListIsBytes, CompareSucceeds, CompareNeedsRoom, ListIsEmptyExactlyWhenReadingsAreEqual, NoDifferenceExactlyWhenCopiesAreEqual, ListIsEmptyExactlyWhenCopiesAreEqual}
@@ -36,21 +36,6 @@ body_true (some x) (some y) e = ap some (same_equal x y e)
 pub body_same : (x : Body) → same_body x x ≡ true
 body_same none = refl
 body_same (some x) = same_refl x
-
-pub trigger_true : (t u : Option Trigger) → same_trigger t u ≡ true → t ≡ u
-trigger_true none none e = refl
-trigger_true none (some u) e = absurd (true≢false (sym e))
-trigger_true (some t) none e = absurd (true≢false (sym e))
-trigger_true (some t) (some u) e =
-    let h = both _ _ e in
-    let p = same_equal t.events u.events h.0 in
-    let q = body_true t.comment u.comment h.1 in
-    λ i.
-    some (record { events = p i; comment = q i })
-
-pub trigger_same : (t : Option Trigger) → same_trigger t t ≡ true
-trigger_same none = refl
-trigger_same (some t) = rw (same_refl t.events, body_same t.comment)
 
 pub channel_true : (c d : Channel) → same_channel c d ≡ true → c ≡ d
 unfolding same_channel
@@ -127,15 +112,13 @@ unfolding group_entries same_own
 group_equal g p q e =
     let h = left_empty _ _ e in
     let k = left_empty _ _ h.1 in
-    let w = both _ _ (unless_empty _ _ h.0) in
-    let o = both _ _ w.0 in
-    let trigger = trigger_true p.trigger q.trigger w.1 in
+    let o = both _ _ (unless_empty _ _ h.0) in
     let size = eqb-true p.record_size q.record_size o.0 in
     let comment = body_true p.comment q.comment o.1 in
     let channels = channels_equal g 1 p.channels q.channels k.0 in
     let records = records_equal g 0 p.records q.records k.1 in
     λ i.
-    record { trigger = trigger i; record_size = size i; comment = comment i; channels = channels i; records = records i }
+    record { record_size = size i; comment = comment i; channels = channels i; records = records i }
 
 groups_equal : (g : ℕ) (ps qs : List Group) → groups_entries g ps qs ≡ [] → ps ≡ qs
 unfolding groups_entries
@@ -179,7 +162,7 @@ records_same g i (x ∷ xs) = rw (same_refl x) (records_same g (suc i) xs)
 group_same : (g : ℕ) (p : Group) → group_entries g p p ≡ []
 unfolding group_entries same_own
 group_same g p =
-    rw (eq-eqb p.record_size p.record_size refl, body_same p.comment, trigger_same p.trigger, channels_same g 1 p.channels) (records_same g 0 p.records)
+    rw (eq-eqb p.record_size p.record_size refl, body_same p.comment, channels_same g 1 p.channels) (records_same g 0 p.records)
 
 groups_same : (g : ℕ) (ps : List Group) → groups_entries g ps ps ≡ []
 unfolding groups_entries groups_alone
@@ -201,12 +184,6 @@ body_turned none none = refl
 body_turned none (some y) = refl
 body_turned (some x) none = refl
 body_turned (some x) (some y) = same_turned x y
-
-trigger_turned : (t u : Option Trigger) → same_trigger t u ≡ same_trigger u t
-trigger_turned none none = refl
-trigger_turned none (some u) = refl
-trigger_turned (some t) none = refl
-trigger_turned (some t) (some u) = rw (same_turned t.events u.events, body_turned t.comment u.comment)
 
 channel_turned : (c d : Channel) → same_channel c d ≡ same_channel d c
 unfolding same_channel
@@ -241,7 +218,6 @@ group_turned g p q =
     rw (
       eqb_turned p.record_size q.record_size,
       body_turned p.comment q.comment,
-      trigger_turned p.trigger q.trigger,
       channels_turned g 1 p.channels q.channels,
       records_turned g 0 p.records q.records,
     )

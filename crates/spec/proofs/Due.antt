@@ -3,7 +3,7 @@
 use Prim.Native.Nat.{ℕ, zero, suc, ◌+◌}
 use mathlib.Core.Path.{◌≡◌, refl, sym, ◌∙◌, ap, subst}
 use mathlib.Core.Logic.{◌↔◌, ◌⊎◌, inl, inr}
-use mathlib.Core.Bool.{Bool, true, false, ◌&&◌, true≢false}
+use mathlib.Core.Bool.{Bool, true, false, true≢false}
 use mathlib.Core.List.Memᴰ
 use mathlib.Core.List.{List, [], ◌∷◌, ◌++◌, Memᴰ}
 use mathlib.Core.Option.{Option, none, some}
@@ -12,12 +12,12 @@ use lib.Dec.{eqb}
 use lib.ListN.{get_elem?}
 use borrow.Author.Tests.{eqb-true, eq-eqb}
 use Rattle.spec.specs.Bytes.{All, same_bytes, difference}
-use Rattle.spec.specs.Reading.{Body, Channel, Trigger, Group, Reading}
-use Rattle.spec.specs.Differences.{Entry, entry, unless, same_body, same_channel, same_trigger, same_own, same_header, alone, file_entries, channel_entries, record_entries, group_entries, groups_alone, groups_entries, differences}
+use Rattle.spec.specs.Reading.{Body, Channel, Group, Reading}
+use Rattle.spec.specs.Differences.{Entry, entry, unless, same_body, same_channel, same_own, same_header, alone, file_entries, channel_entries, record_entries, group_entries, groups_alone, groups_entries, differences}
 use Rattle.spec.specs.Differing.{FileDue, OwnDue, ChannelDue, RecordDue, GroupDue, EntriesAreThoseDue, Before, by_group, by_kind, by_item, Ordered, ListIsDetermined}
 use Rattle.spec.proofs.Answers.{both}
 use Rattle.spec.proofs.Bytes.{same_refl, same_equal, difference_first, first_unique}
-use Rattle.spec.proofs.Differing.{body_true, body_same, trigger_true, trigger_same, channel_true, channel_same}
+use Rattle.spec.proofs.Differing.{body_true, body_same, channel_true, channel_same}
 use Rattle.spec.proofs.EntryOrder.{entries_are_ordered}
 
 -- ---- a list with just the entries of which P holds
@@ -127,9 +127,6 @@ some_there x q = let z : ◌≡◌ {A = ℕ} 0 1 = cc in omega arith
 bytes_equal : (x y : List ℕ) → x ≡ y → same_bytes x y ≡ true
 bytes_equal x y e = subst (λ (z : List ℕ). same_bytes x z ≡ true) e (same_refl x)
 
-trigger_equal : (t u : Option Trigger) → t ≡ u → same_trigger t u ≡ true
-trigger_equal t u e = subst (λ (z : Option Trigger). same_trigger t z ≡ true) e (trigger_same t)
-
 body_equal : (x y : Body) → x ≡ y → same_body x y ≡ true
 body_equal x y e = subst (λ (z : Body). same_body x z ≡ true) e (body_same x)
 
@@ -178,14 +175,9 @@ records_due_lem g i (x ∷ xs) (y ∷ ys) =
 own_due : (g : ℕ) (p q : Group) → Exactly (unless (same_own p q) (entry 3 g 0 0)) (OwnDue g p q)
 unfolding same_own
 own_due g p q =
-    exactly_unless (same_own p q) (entry 3 g 0 0) ((p.record_size ≡ q.record_size) × (p.comment ≡ q.comment) × (p.trigger ≡ q.trigger)) own_equal
-    (λ h. rw (eq-eqb p.record_size q.record_size h.0, body_equal p.comment q.comment h.1, trigger_equal p.trigger q.trigger h.2))
-  where
-    own_equal : same_own p q ≡ true → (p.record_size ≡ q.record_size) × (p.comment ≡ q.comment) × (p.trigger ≡ q.trigger)
-    own_equal e =
-        let h = both (eqb p.record_size q.record_size && same_body p.comment q.comment) (same_trigger p.trigger q.trigger) e in
-        let k = both (eqb p.record_size q.record_size) (same_body p.comment q.comment) h.0 in
-        (eqb-true p.record_size q.record_size k.0, body_true p.comment q.comment k.1, trigger_true p.trigger q.trigger h.1)
+    exactly_unless (same_own p q) (entry 3 g 0 0) ((p.record_size ≡ q.record_size) × (p.comment ≡ q.comment))
+    (λ e. let h = both (eqb p.record_size q.record_size) (same_body p.comment q.comment) e in (eqb-true p.record_size q.record_size h.0, body_true p.comment q.comment h.1))
+    (λ h. rw (eq-eqb p.record_size q.record_size h.0, body_equal p.comment q.comment h.1))
 
 group_due : (g : ℕ) (p q : Group) → Exactly (group_entries g p q) (GroupDue g (some p) (some q))
 unfolding group_entries

@@ -13,9 +13,9 @@ use Rattle.spec.specs.Bytes.{Bytes, field}
 use Rattle.spec.specs.Answer.{Answer, refused, accepted, ◌>>=◌, require, map_answer, passed}
 use Rattle.spec.specs.Reading.{Reading}
 use Rattle.spec.specs.Found.{FoundFile, reading_of}
-use Rattle.spec.specs.Block.{opening, open_block, body_at, read_hd, read_dg, read_tr, read_cg, read_cn}
+use Rattle.spec.specs.Block.{opening, open_block, body_at, read_hd, read_dg, read_cg, read_cn}
 use Rattle.spec.specs.Records.{in_order, log_from, log_of}
-use Rattle.spec.specs.Walk.{fields_pass, formula_passes, conversion_at, channel_at, channel_list, group_list, trigger_at, data_group_list, file_from, ident_passes, walk, reads}
+use Rattle.spec.specs.Walk.{fields_pass, formula_passes, conversion_at, channel_at, channel_list, group_list, data_group_list, file_from, ident_passes, walk, reads}
 use Rattle.spec.specs.Canonical.{channel_length, copy_length, canonical_copy}
 use Rattle.spec.specs.Example.{success, refusal, counting, id300, signal}
 use Rattle.spec.specs.Sample.{Stored, part, part_of}
@@ -157,7 +157,6 @@ small_reading =
       program = none;
       groups =
           record {
-            trigger = none;
             record_size = 1;
             comment = none;
             channels =
@@ -176,6 +175,6 @@ small_reading =
     }
 
 pub something_is_copied : SomethingIsCopied
-unfolding small_reading all_bytes field ◌>>=◌ require opening open_block body_at read_hd read_dg read_tr read_cg read_cn in_order log_from log_of reading_of fields_pass formula_passes conversion_at channel_at channel_list group_list trigger_at data_group_list file_from ident_passes walk reads copy_length channel_length
+unfolding small_reading all_bytes field ◌>>=◌ require opening open_block body_at read_hd read_dg read_cg read_cn in_order log_from log_of reading_of fields_pass formula_passes conversion_at channel_at channel_list group_list data_group_list file_from ident_passes walk reads copy_length channel_length
 something_is_copied =
     (small_reading, record { bytes = all_bytes_lem small_file refl; reading = refl; within = omega arith }, omega arith)

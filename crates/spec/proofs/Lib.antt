@@ -1,5 +1,4 @@
 pub mod Answers
-pub mod Refusals
 pub mod Bytes
 pub mod Places
 pub mod Blocks
@@ -8,7 +7,6 @@ pub mod Groups
 pub mod RoundTrip
 pub mod Logs
 pub mod Opening
-pub mod Triggers
 pub mod Links
 pub mod Numbers
 pub mod Opens

@@ -2,7 +2,8 @@
 -- Assumes nothing.
 use Prim.Native.Nat.{ℕ, ◌+◌}
 use mathlib.Core.Path.{◌≡◌, refl, ◌∙◌, ap}
-use mathlib.Core.Logic.{inl, inr, ⊎_elim}
+use mathlib.Core.Logic.{◌⊎◌, inl, inr, ⊎_elim}
+use mathlib.Core.Bool.{Bool, true, false}
 use mathlib.Core.List.{List}
 use lib.Dec.{leb}
 use lib.ListN.{length, take, drop}
@@ -11,7 +12,6 @@ use Rattle.spec.specs.Answer.{Answer, refused, accepted, ◌>>=◌, require, at_
 use Rattle.spec.specs.Block.{Kind, identifier, Image, size_at, opening, open_block, open_as, body_of, body_at}
 use Rattle.spec.specs.Opening.{HeadInside, Named, HeadNotInside, OtherIdentifier, SizeBelowLeast, EndBeyondImage, BlockInside, OneOfFour, NoOtherFault, FaultIsPassedOn, NothingElseIsPassedOn}
 use Rattle.spec.proofs.Answers.{step, pass, stop, fail, not_both}
-use Rattle.spec.proofs.Refusals.{Tells, fine, then, test}
 use Rattle.spec.proofs.Bytes.{same_refl, same_not}
 
 -- ---- at which test it stops
@@ -43,17 +43,27 @@ block_inside k image p h i l m = head_passes k image p h i (step _ (pass _ _ _ (
 
 -- ---- these four and no others
 
-opening_tells : (k : Kind) (image : Image) (p : ℕ) → Tells (λ n q. OneOfFour n × (q ≡ 0)) (opening k image p)
-unfolding opening
-opening_tells k image p =
-    then _ (test _ 5 _ (inl refl, refl)) λ _.
-    then _ (test _ 17 _ (inr (inl refl), refl)) λ _.
-    then _ (test _ 18 _ (inr (inr (inl refl)), refl)) λ _.
-    then _ (test _ 19 _ (inr (inr (inr refl)), refl)) λ _.
-    fine _
+test_or : {A : Type 0} (P : ℕ → ℕ → Type 0) (t : Bool) (number : ℕ) (m : Answer A)
+    → P number 0
+    → ((n q : ℕ) → m ≡ refused n q → P n q)
+    → (n q : ℕ)
+    → (require t number 0 >>= λ _. m) ≡ refused n q
+    → P n q
+unfolding ◌>>=◌ require
+test_or P true number m here f n q e = f n q e
+test_or P false number m here f n q e =
+    let a : n ≡ number = cc in
+    let b : q ≡ 0 = cc in
+    rw (a, b) here
 
 pub no_other_fault : NoOtherFault
-no_other_fault k image p = (opening_tells k image p).each
+unfolding opening
+no_other_fault k image p =
+    let P : ℕ → ℕ → Type 0 = λ n q. OneOfFour n × (q ≡ 0) in
+    test_or P _ 5 _ (inl refl, refl)
+    (test_or P _ 17 _ (inr (inl refl), refl)
+    (test_or P _ 18 _ (inr (inr (inl refl)), refl)
+    (test_or P _ 19 _ (inr (inr (inr refl)), refl) (λ n q e. absurd (not_both refl e)))))
 
 -- ---- what a link gives back
 

@@ -15,7 +15,7 @@ use Rattle.spec.specs.Answer.{Answer, refused, accepted, ◌>>=◌, require, map
 use Rattle.spec.specs.Block.{Kind, cg_kind, tx_kind, Image, image_of, opening, open_block, Opened, open_as, body_at, read_hd, read_dg, CgBlock, read_cg, CnBlock, read_cn}
 use Rattle.spec.specs.Records.{in_order, by_id, log_from, log_of}
 use Rattle.spec.specs.Found.{reading_of}
-use Rattle.spec.specs.Walk.{fields_pass, formula_passes, conversion_at, channel_at, channel_list, group_list, channel_count, trigger_at, data_group_list, file_from, ident_passes, walk, reads}
+use Rattle.spec.specs.Walk.{fields_pass, formula_passes, conversion_at, channel_at, channel_list, group_list, channel_count, data_group_list, file_from, ident_passes, walk, reads}
 use Rattle.spec.specs.Canonical.{channel_length, copy_length}
 use Rattle.spec.specs.Call.{check_outcome, copying, copy_outcome}
 use Rattle.spec.specs.Since330.{as_version330, walk_before, reads_before, copying_before, NilBelow330, CountsFrom330, CountedInEveryVersion, ReductionRefused, DiffersBelow330Alone, AsBeforeFrom330, AcceptedBeforeIsAccepted, CopyIsAsBefore, MoreIsAccepted, SomethingWasCopied}
@@ -136,11 +136,6 @@ module _ (image : Image) where
       agrees_then (groups_agree left (cl - length channels) mode (cg.content.record_id ∷ used) (p + 4) cg.content.next) λ rest.
       inl refl
 
-  trigger_same : (link_field : ℕ) (l : Option ℕ) → trigger_at image link_field l ≡ trigger_at before link_field l
-  unfolding trigger_at open_block opening
-  trigger_same link_field none = refl
-  trigger_same link_field (some p) = simp body_same
-
   data_groups_agree : (left gl cl link_field : ℕ) (l : Option ℕ)
       → Agrees image (data_group_list image left gl cl link_field l) (data_group_list before left gl cl link_field l)
   unfolding data_group_list open_block opening
@@ -149,7 +144,7 @@ module _ (image : Image) where
   data_groups_agree (suc left) gl cl link_field none = inl refl
   data_groups_agree (suc left) gl cl link_field (some p) =
       agrees_then (inl refl) λ dg.
-      agrees_then (inl (trigger_same _ _)) λ trigger.
+      agrees_then (inl refl) λ _.
       agrees_then (inl refl) λ _.
       agrees_then (groups_agree gl cl dg.content.mode [] _ _) λ gs.
       agrees_then (inl refl) λ log.
@@ -181,9 +176,9 @@ unfolding copy_outcome copying copying_before
 copy_is_as_before a r e out = rw (accepted_before_is_accepted a r e, e)
 
 pub more_is_accepted : MoreIsAccepted
-unfolding field ◌>>=◌ require opening open_block body_at read_hd read_dg read_cg in_order log_from log_of reading_of channel_list group_list trigger_at data_group_list file_from ident_passes walk check_outcome walk_before reads_before copying_before
+unfolding field ◌>>=◌ require opening open_block body_at read_hd read_dg read_cg in_order log_from log_of reading_of channel_list group_list data_group_list file_from ident_passes walk check_outcome walk_before reads_before copying_before
 more_is_accepted = (refl, refl, refl, refl)
 
 pub something_was_copied : SomethingWasCopied
-unfolding field ◌>>=◌ require opening open_block body_at read_hd read_dg read_cg read_cn by_id log_from log_of reading_of fields_pass formula_passes conversion_at channel_at channel_list group_list trigger_at data_group_list ident_passes channel_length copy_length walk_before reads_before copying_before
+unfolding field ◌>>=◌ require opening open_block body_at read_hd read_dg read_cg read_cn by_id log_from log_of reading_of fields_pass formula_passes conversion_at channel_at channel_list group_list data_group_list ident_passes channel_length copy_length walk_before reads_before copying_before
 something_was_copied = refl

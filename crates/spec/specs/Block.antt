@@ -37,9 +37,6 @@ tx_kind = record { first = 84; second = 88; least = 4 }
 abbrev pub pr_kind : Kind
 pr_kind = record { first = 80; second = 82; least = 4 }
 
-abbrev pub tr_kind : Kind
-tr_kind = record { first = 84; second = 82; least = 10 }
-
 abbrev pub ce_kind : Kind
 ce_kind = record { first = 67; second = 69; least = 6 }
 
@@ -52,10 +49,6 @@ hd_written version = cond (ltb version 320) 164 208
 
 abbrev pub dg_written : ℕ
 dg_written = 28
-
--- by its number of events (document 02, CR 4)
-abbrev pub tr_written : ℕ → ℕ
-tr_written events = 10 + 24 * events
 
 abbrev pub cg_written : ℕ
 cg_written = 30
@@ -198,24 +191,6 @@ write_dg dg =
     ∷ bytes_of 2 1
     ∷ bytes_of 2 dg.mode
     ∷ bytes_of 4 0
-    ∷ [])
-
-pub record TrBlock : Type 0 where
-  pub comment : Option ℕ
-  pub count : ℕ
-  pub events : List ℕ  -- three REALs for each event, from 10 on
-
-unfoldable pub read_tr : List ℕ → TrBlock
-read_tr tr = record { comment = link 4 tr; count = u16 8 tr; events = take (24 * u16 8 tr) (drop 10 tr) }
-
-unfoldable pub write_tr : TrBlock → List ℕ
-write_tr tr =
-    join
-    (identifier tr_kind
-    ∷ bytes_of 2 (tr_written tr.count)
-    ∷ link_bytes tr.comment
-    ∷ bytes_of 2 tr.count
-    ∷ tr.events
     ∷ [])
 
 pub record CgBlock : Type 0 where

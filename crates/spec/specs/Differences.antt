@@ -1,9 +1,9 @@
 -- The differences of two readings, as entries of 16 bytes; docs/RULES.md, 12.
 -- Assumes nothing.
 use Rattle.std.specs.Prelude.{ℕ, suc, ◌*◌, Bool, true, false, ◌&&◌, List, [], ◌∷◌, ◌++◌, map, eqb, length}
-use Rattle.std.proofs.Math.Option.{Option, none, some}
+use Rattle.std.proofs.Math.Option.{none, some}
 use Rattle.spec.specs.Bytes.{bytes_of, same_bytes, difference, join}
-use Rattle.spec.specs.Reading.{Body, Channel, Trigger, Group, Reading}
+use Rattle.spec.specs.Reading.{Body, Channel, Group, Reading}
 
 -- ---- entries
 
@@ -46,15 +46,9 @@ same_channel c d =
     && same_body c.long_name d.long_name
     && same_body c.display_name d.display_name
 
-abbrev pub same_trigger : Option Trigger → Option Trigger → Bool
-same_trigger none none = true
-same_trigger none (some u) = false
-same_trigger (some t) none = false
-same_trigger (some t) (some u) = same_bytes t.events u.events && same_body t.comment u.comment
-
--- a group's own fields, comment and trigger
+-- a group's own fields and comment
 unfoldable pub same_own : Group → Group → Bool
-same_own g h = eqb g.record_size h.record_size && same_body g.comment h.comment && same_trigger g.trigger h.trigger
+same_own g h = eqb g.record_size h.record_size && same_body g.comment h.comment
 
 unfoldable pub same_header : Reading → Reading → Bool
 same_header r s = same_bytes r.plain s.plain && same_bytes r.later s.later

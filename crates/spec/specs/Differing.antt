@@ -36,9 +36,9 @@ FileDue r s e =
     ⊎ ((r.comment ≡ s.comment → ⊥) × (e ≡ entry 1 0 2 0))
     ⊎ ((r.program ≡ s.program → ⊥) × (e ≡ entry 1 0 3 0))
 
--- 3, of a group's own fields, comment and trigger
+-- 3, of a group's own fields and comment
 abbrev pub OwnDue : ℕ → Group → Group → Entry → Type 0
-OwnDue g p q e = ((p.record_size ≡ q.record_size) × (p.comment ≡ q.comment) × (p.trigger ≡ q.trigger) → ⊥) × (e ≡ entry 3 g 0 0)
+OwnDue g p q e = ((p.record_size ≡ q.record_size) × (p.comment ≡ q.comment) → ⊥) × (e ≡ entry 3 g 0 0)
 
 -- 3, of a channel, also of one that one file alone has; i is its item
 abbrev pub ChannelDue : ℕ → ℕ → Option Channel → Option Channel → Entry → Type 0

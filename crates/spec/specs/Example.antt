@@ -1,13 +1,13 @@
 -- Worked examples: images built byte by byte, and what each call gives for them. Document 01, Postings to agree with; docs/RULES.md, 10 and 12.
--- The first table has every example that document 01 marks. The others are ours, for refusals, layout, samples, differences and triggers. Too large to compute here: 1, 12, and 7 for channels.
+-- The first table has every example that document 01 marks. The others are ours, for refusals, layout, samples and differences. Too large to compute here: 1, 12, and 7 for channels.
 -- Assumes nothing.
 use Rattle.std.specs.Prelude.{ℕ, zero, suc, ◌+◌, ◌-◌, ◌%◌, ◌≡◌, true, false, List, [], ◌∷◌, ◌++◌, map, length, take, drop, replicate, pos, negsuc, Float}
-use Rattle.std.proofs.Math.Option.{Option, none, some}
+use Rattle.std.proofs.Math.Option.{none, some}
 use Rattle.std.specs.Float.{nan, inf, fin}
 use Rattle.spec.specs.Bytes.{bytes_of, join}
 use Rattle.spec.specs.Answer.{Answer, refused, accepted, map_answer, passed}
 use Rattle.spec.specs.Block.{image_of}
-use Rattle.spec.specs.Reading.{Body, Channel, Trigger, Group, Reading}
+use Rattle.spec.specs.Reading.{Body, Channel, Group, Reading}
 use Rattle.spec.specs.Walk.{channel_list, group_list, data_group_list, most, reads}
 use Rattle.spec.specs.Differences.{Entry, entry, entry_bytes, differences}
 use Rattle.spec.specs.Sample.{part, Raw, natural, integer, float32, float64, bytes_at}
@@ -101,10 +101,6 @@ hd_block first comment program count =
 abbrev pub dg_block : ℕ → ℕ → ℕ → ℕ → ℕ → ℕ → List ℕ
 dg_block next first trigger records count mode =
     join ((68 ∷ 71 ∷ []) ∷ bytes_of 2 28 ∷ bytes_of 4 next ∷ bytes_of 4 first ∷ bytes_of 4 trigger ∷ bytes_of 4 records ∷ bytes_of 2 count ∷ bytes_of 2 mode ∷ zeros 4 ∷ [])
-
--- size, comment, event count, events
-abbrev pub tr_block : ℕ → ℕ → ℕ → List ℕ → List ℕ
-tr_block size comment count events = join ((84 ∷ 82 ∷ []) ∷ bytes_of 2 size ∷ bytes_of 4 comment ∷ bytes_of 2 count ∷ events ∷ [])
 
 -- next, first CN, comment, record ID, CN count, record size, record count, sample reduction
 abbrev pub cg_block : ℕ → ℕ → ℕ → ℕ → ℕ → ℕ → ℕ → ℕ → List ℕ
@@ -346,8 +342,7 @@ checks =
     ∷ checked (header (hd_block 4294967295 0 0 0)) 5 68
     ∷ checked (header (hd_block 0 0 228 0) ++ text []) 17 76
     ∷ checked (header (hd_block 0 0 228 0) ++ small 80 82 []) 0 0
-    ∷ checked (one_data_group (dg_block 0 1 1 1 0 3) []) 17 240
-    ∷ checked (one_data_group (dg_block 0 1 1000 1 0 3) []) 5 240
+    ∷ checked (one_data_group (dg_block 0 1 1 1 0 3) []) 6 240
     ∷ checked (one_data_group (dg_block 0 1 0 1 0 3) []) 8 250
     ∷ checked (one_data_group (dg_block 256 0 0 1 0 2) (dg_block 228 0 0 1 0 2)) 7 260
     ∷ checked (one_data_group (dg_block 228 256 0 0 0 1) (cg_block 286 0 0 1 0 0 0 0 ++ cg_block 0 0 0 2 0 0 0 0)) 7 236
@@ -643,9 +638,8 @@ clauses =
     ∷ copies two_channels (room 760) (record { given = success 760; memory = two_channels_copy })
     -- 3.6, 4.2: in mode 0 the record ID counts for nothing, and 0 is written
     ∷ copies (one_channel_group 0 (cg_block 0 0 0 5 0 1 1 0) (zeros 228 ++ (65 ∷ []))) (room 287) (record { given = success 287; memory = join (id300 ∷ hd_block 228 0 0 1 ∷ dg_block 0 256 0 286 1 0 ∷ cg_block 0 0 0 0 0 1 1 0 ∷ (65 ∷ []) ∷ []) })
-    -- 2.1: a trigger link that is not nil, whichever of its bytes is not 0
-    ∷ checked (one_data_group (dg_block 0 0 65536 0 0 0) []) 5 240
-    -- 5.1, number 6: a sample reduction or CD link that is not nil, likewise
+    -- 5.1, number 6: a trigger, sample reduction or CD link that is not nil, whichever of its bytes is not 0
+    ∷ checked (one_data_group (dg_block 0 0 65536 0 0 0) []) 6 240
     ∷ checked (of_version 330 (one_channel_group 0 (cg_block 0 0 0 0 0 0 0 65536) [])) 6 282
     ∷ checked (one_channel (cn_block (links4 0 0 65536 0) 0 0 16 0 (zeros 10)) []) 6 302
     -- 5.1, number 8: the ID of any earlier group of the data group, here 7, 8 and 7
@@ -689,8 +683,6 @@ openings =
     ++ faults 80 82 4 (λ bytes. header (hd_block 0 0 228 0) ++ bytes) 76
     ++ faults 68 71 24 (λ bytes. one_data_group (dg_block 256 0 0 0 0 0) bytes) 232
     ++ faults 67 71 26 (λ bytes. one_data_group (dg_block 0 256 0 0 0 0) bytes) 236
-    ++ faults 84 82 10 (λ bytes. one_data_group (dg_block 0 0 256 0 0 0) bytes) 240
-    ++ faults 84 88 4 (λ bytes. one_data_group (dg_block 0 0 256 0 0 0) (tr_block 10 266 0 [] ++ bytes)) 260
     ++ faults 67 71 26 (λ bytes. one_channel_group 1 (cg_block 286 0 0 1 0 0 0 0) bytes) 260
     ++ faults 67 78 218 (λ bytes. one_channel_group 0 (cg_block 0 286 0 0 0 0 0 0) bytes) 264
     ++ faults 84 88 4 (λ bytes. one_channel_group 0 (cg_block 0 0 286 0 0 0 0 0) bytes) 268
@@ -713,8 +705,6 @@ openings =
     ++ faults 67 78 218 (λ bytes. one_channel_group 0 (cg_block 0 290 286 0 0 0 0 0) (text [] ++ bytes)) 264
     ++ faults 67 71 26 (λ bytes. one_data_group (dg_block 0 256 0 0 0 1) (join (cg_block 286 0 0 1 0 0 0 0 ∷ cg_block 544 316 0 2 0 1 0 0 ∷ signal 0 8 0 ∷ bytes ∷ []))) 290
     ++ faults 68 71 24 (λ bytes. one_data_group (dg_block 256 0 0 0 0 0) (join (dg_block 314 284 0 0 1 0 ∷ cg_block 0 0 0 0 0 0 0 0 ∷ bytes ∷ []))) 260
-    ++ faults 84 82 10 (λ bytes. one_data_group (dg_block 256 0 284 0 0 0) (join (dg_block 0 0 294 0 0 0 ∷ tr_block 10 0 0 [] ∷ bytes ∷ []))) 268
-    ++ faults 84 88 4 (λ bytes. one_data_group (dg_block 256 0 284 0 0 0) (join (dg_block 0 0 294 0 0 0 ∷ tr_block 10 0 0 [] ∷ tr_block 10 304 0 [] ∷ bytes ∷ []))) 298
     ++ (checked (one_channel (cn_block (links4 514 1 0 0) 0 0 16 0 (zeros 10)) (67 ∷ 67 ∷ 255 ∷ 255 ∷ [])) 19 294 ∷ [])
 
 -- ---- two files compared
@@ -750,7 +740,7 @@ plain_channel = channel_of one one none none none none none
 
 -- record size, comment, channels, records
 abbrev pub group_of : ℕ → Body → List Channel → List (List ℕ) → Group
-group_of size comment channels records = record { trigger = none; record_size = size; comment = comment; channels = channels; records = records }
+group_of size comment channels records = record { record_size = size; comment = comment; channels = channels; records = records }
 
 -- ID, HD fields, those from version 320 on, comment, program, groups
 abbrev pub of_file : List ℕ → List ℕ → List ℕ → Body → Body → List Group → Reading
@@ -765,13 +755,6 @@ bare = group_of 1 none [] []
 
 abbrev pub full : Group
 full = group_of 1 none (plain_channel ∷ []) (one ∷ [])
-
--- and one with this trigger alone
-abbrev pub triggered : Option Trigger → Group
-triggered trigger = record { trigger = trigger; record_size = 1; comment = none; channels = []; records = [] }
-
-abbrev pub events : List ℕ → Body → Option Trigger
-events bytes comment = some (record { events = bytes; comment = comment })
 
 -- group 1 has these
 abbrev pub of_channels : List Channel → Reading
@@ -821,9 +804,6 @@ comparisons =
     ∷ differ (of_groups (bare ∷ [])) (of_groups (bare ∷ full ∷ bare ∷ [])) (entry 2 1 0 0 ∷ entry 2 2 0 0 ∷ [])
     -- kind 3, item 0: record size, and comment
     ∷ differ (of_groups (bare ∷ bare ∷ bare ∷ [])) (of_groups (group_of 2 none [] [] ∷ group_of 1 (some []) [] [] ∷ bare ∷ [])) (entry 3 0 0 0 ∷ entry 3 1 0 0 ∷ [])
-    -- and trigger: none, no event, other events, other comments
-    ∷ differ (of_groups (bare ∷ bare ∷ triggered (events one none) ∷ triggered (events one none) ∷ triggered (events one (some one)) ∷ triggered (events one (some one)) ∷ [])) (of_groups (bare ∷ triggered (events [] none) ∷ triggered (events two none) ∷ triggered (events one (some [])) ∷ triggered (events one (some two)) ∷ triggered (events one (some one)) ∷ [])) (entry 3 1 0 0 ∷ entry 3 2 0 0 ∷ entry 3 3 0 0 ∷ entry 3 4 0 0 ∷ [])
-    ∷ differ (of_groups (triggered (events [] none) ∷ [])) (of_groups (bare ∷ [])) (entry 3 0 0 0 ∷ [])
     -- kind 3, item c + 1: channels that differ in one part each, and the last in none
     ∷ differ (of_channels (replicate 8 plain_channel)) (of_channels many_channels) (entry 3 1 1 0 ∷ entry 3 1 2 0 ∷ entry 3 1 3 0 ∷ entry 3 1 4 0 ∷ entry 3 1 5 0 ∷ entry 3 1 6 0 ∷ entry 3 1 7 0 ∷ [])
     -- and channels of one file alone
@@ -836,140 +816,8 @@ comparisons =
     ∷ differ (of_file one one one none (some one) (group_of 1 none (plain_channel ∷ []) (one ∷ one ∷ []) ∷ group_of 1 none [] (one ∷ []) ∷ bare ∷ [])) (of_file one two one none none (group_of 2 none [] (one ∷ two ∷ one ∷ []) ∷ group_of 1 none (plain_channel ∷ []) (two ∷ []) ∷ [])) (entry 1 0 1 0 ∷ entry 1 0 3 0 ∷ entry 3 0 0 0 ∷ entry 3 0 1 0 ∷ entry 4 0 1 0 ∷ entry 5 0 2 0 ∷ entry 3 1 1 0 ∷ entry 4 1 0 0 ∷ entry 2 2 0 0 ∷ [])
     ∷ []
 
--- ---- triggers
-
--- the bytes of one event
-abbrev pub event : List ℕ
-event = counting 1 24
-
-abbrev pub no_channels : List ℕ
-no_channels = cg_block 0 0 0 0 0 0 0 0
-
--- DG 228, TR 256, its comment 290, CG 297
-abbrev pub one_trigger : List ℕ
-one_trigger = one_data_group (dg_block 0 297 256 0 1 0) (join (tr_block 34 290 1 event ∷ text (65 ∷ 66 ∷ 0 ∷ []) ∷ no_channels ∷ []))
-
--- the same reading: CG 256, comment 286, TR 293 with 29 bytes behind its event, more than another would have
-abbrev pub trigger_behind : List ℕ
-trigger_behind =
-    one_data_group (dg_block 0 256 293 0 1 0) (join (no_channels ∷ text (65 ∷ 66 ∷ 0 ∷ []) ∷ tr_block 63 286 1 (event ++ counting 50 29) ∷ []))
-
--- two groups of one data group, and one of another, all with the TR at 374 and its comment at 408: CG 284, CG 314, CG 344. The mode of the first data group
-abbrev pub shared_trigger : ℕ → List ℕ
-shared_trigger mode =
-    one_data_group (dg_block 256 284 374 0 2 mode)
-    (join (dg_block 0 344 374 0 1 0 ∷ cg_block 314 0 0 1 0 0 0 0 ∷ cg_block 0 0 0 2 0 0 0 0 ∷ no_channels ∷ tr_block 34 408 1 event ∷ text (65 ∷ 66 ∷ 0 ∷ []) ∷ []))
-
--- a TR and a comment for each group: DG 228, 327 and 426, each 99 bytes with what it leads to
-abbrev pub shared_trigger_copy : List ℕ
-shared_trigger_copy =
-    join
-    (id300
-    ∷ hd_block 228 0 0 3
-    ∷ dg_block 327 297 256 0 1 0
-    ∷ tr_block 34 290 1 event
-    ∷ text (65 ∷ 66 ∷ 0 ∷ [])
-    ∷ no_channels
-    ∷ dg_block 426 396 355 0 1 0
-    ∷ tr_block 34 389 1 event
-    ∷ text (65 ∷ 66 ∷ 0 ∷ [])
-    ∷ no_channels
-    ∷ dg_block 0 495 454 0 1 0
-    ∷ tr_block 34 488 1 event
-    ∷ text (65 ∷ 66 ∷ 0 ∷ [])
-    ∷ no_channels
-    ∷ [])
-
--- the second of them without
-abbrev pub one_not_triggered : List ℕ
-one_not_triggered = join (take 327 shared_trigger_copy ∷ dg_block 426 396 0 0 1 0 ∷ drop 355 shared_trigger_copy ∷ [])
-
--- from version 330 on: DG 272, TR 300, its comment 334, CG 341
-abbrev pub one_trigger330 : List ℕ
-one_trigger330 =
-    join
-    (id_block mdf 0 0 330
-    ∷ (72 ∷ 68 ∷ [])
-    ∷ bytes_of 2 208
-    ∷ bytes_of 4 272
-    ∷ zeros 8
-    ∷ bytes_of 2 1
-    ∷ counting 100 146
-    ∷ zeros 44
-    ∷ dg_block 0 341 300 0 1 0
-    ∷ tr_block 34 334 1 event
-    ∷ text (65 ∷ 66 ∷ 0 ∷ [])
-    ∷ no_channels
-    ∷ [])
-
--- a data group without channel groups and one with, each with a trigger of its own: DG 256, TR 284 and 318, CG 328
-abbrev pub empty_before : List ℕ
-empty_before = one_data_group (dg_block 256 0 284 0 0 0) (join (dg_block 0 328 318 0 1 0 ∷ tr_block 34 0 1 event ∷ tr_block 10 0 0 [] ∷ no_channels ∷ []))
-
--- three events; a group with a channel, a comment and a record: DG 228, TR 256, its comment 338, CG 342, its comment 372, CN 377, record 605
-abbrev pub with_all : List ℕ
-with_all =
-    join
-    (id300
-    ∷ hd_block 228 0 0 1
-    ∷ dg_block 0 342 256 605 1 0
-    ∷ tr_block 82 338 3 (counting 9 72)
-    ∷ text []
-    ∷ cg_block 0 377 372 0 1 1 1 0
-    ∷ text (67 ∷ [])
-    ∷ signal 0 8 0
-    ∷ (68 ∷ [])
-    ∷ [])
-
--- a data group with this TR, whose mode is unknown and whose other links lead to no block
-abbrev pub bad_mode : List ℕ → List ℕ
-bad_mode tr = one_data_group (dg_block 0 1 256 1 0 3) tr
-
-unfoldable pub triggers : List Example
-triggers =
-    -- the end comes before the count, the count before the comment, the comment before the mode
-    checked (bad_mode (tr_block 35 1 65535 (zeros 24))) 19 240
-    ∷ checked (bad_mode (tr_block 33 1 1 (zeros 24))) 18 240
-    ∷ checked (bad_mode (tr_block 10 1 1 [])) 18 240
-    ∷ checked (bad_mode (tr_block 34 1 1 (zeros 24))) 17 260
-    ∷ checked (bad_mode (tr_block 34 0 1 (zeros 24))) 8 250
-    ∷ checked (bad_mode (tr_block 10 0 0 [])) 8 250
-    -- both bytes of the count, and 24 bytes an event
-    ∷ checked (one_data_group (dg_block 0 0 256 0 0 0) (tr_block 10 0 256 [])) 18 240
-    ∷ checked (one_data_group (dg_block 0 0 256 0 0 0) (tr_block 57 0 2 (zeros 47))) 18 240
-    ∷ checked (one_data_group (dg_block 0 0 256 0 0 0) (tr_block 58 0 2 (zeros 48))) 0 0
-    ∷ checked (one_data_group (dg_block 0 0 256 0 0 0) (tr_block 58 0 3 (zeros 48))) 18 240
-    -- 2,731 events need more than a size can say
-    ∷ checked (one_data_group (dg_block 0 0 256 0 0 0) (tr_block 18 0 2731 (zeros 8))) 18 240
-    -- a size below the least; a comment link to the TR block itself; events of a second TR block
-    ∷ checked (one_data_group (dg_block 0 0 256 0 0 0) (tr_block 9 0 0 (zeros 9))) 18 240
-    ∷ checked (one_data_group (dg_block 256 0 284 0 0 0) (dg_block 0 0 284 0 0 0 ++ tr_block 34 284 1 event)) 17 288
-    ∷ checked (one_data_group (dg_block 256 0 284 0 0 0) (join (dg_block 0 0 294 0 0 0 ∷ tr_block 10 0 0 [] ∷ tr_block 10 0 1 [] ∷ []))) 18 268
-    -- the first data group's group passes, and the second data group's trigger is refused before its mode
-    ∷ checked (one_data_group (dg_block 286 256 0 0 1 0) (no_channels ++ dg_block 0 0 1 0 0 3)) 17 298
-    -- 4.2: TR and comment straight behind their DG, of the written size
-    ∷ copies one_trigger (room 328) (record { given = success 327; memory = one_trigger ++ room 1 })
-    ∷ copies trigger_behind (room 327) (record { given = success 327; memory = one_trigger })
-    ∷ copies trigger_behind (room 326) (record { given = refusal 13 327; memory = room 326 })
-    ∷ copies (shared_trigger 1) (room 525) (record { given = success 525; memory = shared_trigger_copy })
-    ∷ copies (shared_trigger 2) (room 525) (record { given = success 525; memory = shared_trigger_copy })
-    ∷ copies shared_trigger_copy (room 525) (record { given = success 525; memory = shared_trigger_copy })
-    ∷ copies (of_version 330 one_trigger) (room 371) (record { given = success 371; memory = one_trigger330 })
-    ∷ copies with_all (room 606) (record { given = success 606; memory = with_all })
-    -- an empty data group's trigger is dropped
-    ∷ copies (one_data_group (dg_block 0 0 256 0 0 0) (tr_block 34 0 1 event)) (room 228) (record { given = success 228; memory = plain300 })
-    ∷ copies empty_before (room 296) (record { given = success 296; memory = join (id300 ∷ hd_block 228 0 0 1 ∷ dg_block 0 266 256 0 1 0 ∷ tr_block 10 0 0 [] ∷ no_channels ∷ []) })
-    -- samples are taken from behind it
-    ∷ sampled with_all (success (natural 68))
-    -- and files that differ in it differ in their group
-    ∷ compares one_trigger trigger_behind [] (record { given = success 0; memory = [] })
-    ∷ compares one_trigger (one_channel_group 0 no_channels []) (room 16) (record { given = success 16; memory = written 3 0 0 0 })
-    ∷ compares (shared_trigger 1) shared_trigger_copy [] (record { given = success 0; memory = [] })
-    ∷ compares (shared_trigger 2) one_not_triggered (room 16) (record { given = success 16; memory = written 3 1 0 0 })
-    ∷ []
-
 abbrev pub OwnExamplesAgree : Type 0
-OwnExamplesAgree = Agree checks × Agree others × Agree edges × Agree clauses × Agree openings × Agree comparisons × Agree triggers
+OwnExamplesAgree = Agree checks × Agree others × Agree edges × Agree clauses × Agree openings × Agree comparisons
 
 -- what the tables have no row for: samples of a later group and record, the function under the program, numbers as bytes, the limits of 7 at their end, the limit of 1 and 12
 -- Where a file may have one channel, the second is refused also in a later group or data group.
@@ -1000,14 +848,6 @@ ReadingsDiffer a b = ((check_outcome a).number ≡ 0) × ((check_outcome b).numb
 -- no comment, and one of no bytes
 abbrev pub AbsentIsNotEmpty : Type 0
 AbsentIsNotEmpty = ReadingsDiffer plain300 (header (hd_block 0 228 0 0) ++ text [])
-
--- no trigger, and one without an event; its comment absent, and of no bytes
-abbrev pub NoEventIsNotNoTrigger : Type 0
-NoEventIsNotNoTrigger = ReadingsDiffer (one_data_group (dg_block 0 256 0 0 1 0) no_channels) (one_data_group (dg_block 0 256 286 0 1 0) (no_channels ++ tr_block 10 0 0 []))
-
-abbrev pub AbsentTriggerCommentIsNotEmpty : Type 0
-AbsentTriggerCommentIsNotEmpty =
-    ReadingsDiffer (one_data_group (dg_block 0 256 286 0 1 0) (no_channels ++ tr_block 10 0 0 [])) (one_data_group (dg_block 0 256 286 0 1 0) (join (no_channels ∷ tr_block 10 296 0 [] ∷ text [] ∷ [])))
 
 -- two groups of one size: A, B and C logged as 1 1 2, and as 1 2 2
 abbrev pub logged : ℕ → ℕ → List ℕ → List ℕ

@@ -1,14 +1,13 @@
--- Where a block that does not open is told. Document 02, CR 3 and CR 4; docs/RULES.md, 2.4 and 5.1. Proofs: proofs/Links.antt.
+-- Where a block that does not open is told. Document 02, CR 3; docs/RULES.md, 2.4 and 5.1. Proofs: proofs/Links.antt.
 -- Assumes nothing.
 use Rattle.std.specs.Prelude.{ℕ, ◌+◌, ◌≡◌, ◌⊎◌, List, [], ◌∷◌}
 use Rattle.std.proofs.Math.Option.{some}
 use Rattle.std.proofs.Math.ListN.{get_elem?}
 use Rattle.spec.specs.Bytes.{link}
 use Rattle.spec.specs.Answer.{refused, accepted}
-use Rattle.spec.specs.Block.{Kind, hd_kind, dg_kind, tr_kind, cg_kind, cn_kind, cc_kind, tx_kind, pr_kind, ce_kind, Image, image_of, opening}
+use Rattle.spec.specs.Block.{Kind, hd_kind, dg_kind, cg_kind, cn_kind, cc_kind, tx_kind, pr_kind, ce_kind, Image, image_of, opening}
 use Rattle.spec.specs.Walk.{walk}
 use Rattle.spec.specs.Opening.{OneOfFour}
-use Rattle.spec.specs.Triggers.{HoldsEvents}
 
 -- a link to a block: the kind of block that has it, its offset there, the kind that it leads to
 pub record Link : Type 0 where
@@ -23,8 +22,6 @@ links =
     ∷ record { from = hd_kind; offset = 12; to = pr_kind }
     ∷ record { from = dg_kind; offset = 4; to = dg_kind }
     ∷ record { from = dg_kind; offset = 8; to = cg_kind }
-    ∷ record { from = dg_kind; offset = 12; to = tr_kind }
-    ∷ record { from = tr_kind; offset = 4; to = tx_kind }
     ∷ record { from = cg_kind; offset = 4; to = cg_kind }
     ∷ record { from = cg_kind; offset = 8; to = cn_kind }
     ∷ record { from = cg_kind; offset = 12; to = tx_kind }
@@ -49,16 +46,6 @@ pub data Reached (image : Image) : Kind → ℕ → Type 0 where
   header : Reached image hd_kind 64
   behind : (l : Link) (p t : ℕ) → Reached image l.from p → Leads image l p t → Reached image l.to t
 
--- 18 has a second cause: a TR block opens at p, and its size does not hold its events (document 02, CR 4)
-pub record EventsNotHeld (image : Image) (p : ℕ) : Type 0 where
-  pub block : List ℕ
-  pub opens : opening tr_kind image p ≡ accepted block
-  pub short : HoldsEvents block → ⊥
-
--- the fault n of the block of this kind that is wanted at p
-abbrev pub FaultAt : Image → Kind → ℕ → ℕ → Type 0
-FaultAt image k p n = (opening k image p ≡ refused n 0) ⊎ ((k ≡ tr_kind) × (n ≡ 18) × EventsNotHeld image p)
-
 -- a refusal of an image with one of the four is that of HD, at 64, or that of the block behind a link of a block that is reached, at the link's field
 abbrev pub FaultIsToldAtItsLink : Type 0
 FaultIsToldAtItsLink =
@@ -71,5 +58,5 @@ FaultIsToldAtItsLink =
     × (t : ℕ)
     × Reached (image_of a) l.from p
     × Leads (image_of a) l p t
-    × FaultAt (image_of a) l.to t n
+    × (opening l.to (image_of a) t ≡ refused n 0)
     × (q ≡ p + l.offset))

@@ -126,22 +126,6 @@ fn last_bytes(long: &mut Long<'_>) {
     long.bytes[LONGEST - 4..LONGEST].fill(0);
 }
 
-/// A trigger of one event in the last bytes.
-fn last_trigger(long: &mut Long<'_>) {
-    let (mut sheet, data, _) = small_file();
-    let (tr, field) = (LONGEST - 34, data - 4);
-    let place = field as u64;
-    sheet.put32(field, tr as u32);
-    long.bytes[tr..tr + 10].copy_from_slice(b"TR\x22\0\0\0\0\0\x01\0");
-    long.try_at("trigger at the end", &sheet.bytes, LONGEST, (0, 0));
-    long.try_at("trigger at the end, cut", &sheet.bytes, LONGEST - 1, (19, place));
-    long.bytes[tr + 8] = 2;
-    long.try_at("trigger with too many events", &sheet.bytes, LONGEST, (18, place));
-    long.bytes[tr + 2] = 58;
-    long.try_at("trigger beyond the end", &sheet.bytes, LONGEST, (19, place));
-    long.bytes[tr..LONGEST].fill(0);
-}
-
 /// A number and a text in the last three records, of two bytes each.
 fn last_samples(long: &mut Long<'_>) {
     let mut file = Signals::new(2);
@@ -189,7 +173,6 @@ fn long_images(options: &Options, tally: &mut Tally) -> bool {
     let mut long = Long { bytes, options, output: Output::default(), tally, right: true };
     lengths(&mut long);
     last_bytes(&mut long);
-    last_trigger(&mut long);
     last_samples(&mut long);
     longest_copy(&mut long);
     long_pairs(&mut long);

@@ -78,9 +78,6 @@ pub fn compare(
         let answer = compare_answer(image, length, output, tally)?;
         compare_output(output, answer, copy.as_deref())?;
     }
-    if let (Ok(found), true) = (&found, copy.is_some()) {
-        tally.note_triggers(&found.reading);
-    }
     sampling::compare(image, reading_of(&found), wanted.known, tally)
 }
 

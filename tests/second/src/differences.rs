@@ -67,12 +67,9 @@ pub fn each(one: &Reading<'_>, other: &Reading<'_>, mut put: impl FnMut(Entry)) 
     }
 }
 
-/// The group's own fields, trigger and comment, then its channels.
+/// The group's own fields and comment, then its channels.
 fn described(number: usize, one: &Group<'_>, other: &Group<'_>, put: &mut impl FnMut(Entry)) {
-    let same = one.record_size == other.record_size
-        && one.comment == other.comment
-        && one.trigger == other.trigger;
-    if !same {
+    if (one.record_size, one.comment) != (other.record_size, other.comment) {
         put(entry(3, number, 0, 0));
     }
     for channel in 0..one.channels.len().max(other.channels.len()) {

@@ -71,9 +71,6 @@ pub fn compare(
     compare_order((one, other), &lists[0], output, tally)?;
     compare_order((other, one), &lists[1], output, tally)?;
     tally.note_listed(&lists[0]);
-    if let (Ok(one), Ok(other)) = (one.reading(), other.reading()) {
-        tally.note_unlike(one, other);
-    }
     Ok(())
 }
 

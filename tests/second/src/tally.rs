@@ -2,7 +2,6 @@
 
 use second::differences::Entry;
 use second::mdf::Refusal;
-use second::reading::{Reading, Trigger};
 use second::sample::{Answer, Call};
 
 const NUMBERS: usize = 20;
@@ -12,9 +11,6 @@ const KINDS: usize = 6;
 pub struct Tally {
     check: [u64; NUMBERS],
     copy: [u64; NUMBERS],
-    /// Files whose copies were compared, with a trigger of each form: bare,
-    /// with a comment alone, with events alone, with both.
-    triggers: [u64; 4],
     sample: [u64; NUMBERS],
     physical: [u64; NUMBERS],
     /// Samples of each kind.
@@ -27,8 +23,6 @@ pub struct Tally {
     entries: [u64; KINDS],
     /// Pairs whose lists were compared: with a refused image, and without.
     listed: [u64; 2],
-    /// Of the latter those that differ in a trigger.
-    unlike: [u64; 1],
 }
 
 impl Tally {
@@ -38,23 +32,6 @@ impl Tally {
 
     pub fn note_copy(&mut self, number: u32) {
         self.copy[number as usize] += 1;
-    }
-
-    /// The triggers of a file whose copy was compared.
-    pub fn note_triggers(&mut self, reading: &Reading<'_>) {
-        let mut forms = [false; 4];
-        for Trigger { events, comment } in reading.groups.iter().filter_map(|g| g.trigger) {
-            forms[2 * usize::from(!events.is_empty()) + usize::from(comment.is_some())] = true;
-        }
-        for (cell, met) in self.triggers.iter_mut().zip(forms) {
-            *cell += u64::from(met);
-        }
-    }
-
-    /// How many files were copied with triggers of the rarest form, and how
-    /// many pairs compared that differ in a trigger.
-    pub fn triggers_carried(&self) -> (u64, u64) {
-        (self.triggers.iter().copied().min().unwrap_or(0), self.unlike[0])
     }
 
     pub fn note_asked(&mut self, call: Call, answer: Answer) {
@@ -75,12 +52,6 @@ impl Tally {
         self.list[number as usize] += 1;
     }
 
-    /// Whether a group that both have has another trigger.
-    pub fn note_unlike(&mut self, one: &Reading<'_>, other: &Reading<'_>) {
-        let mut both = one.groups.iter().zip(&other.groups);
-        self.unlike[0] += u64::from(both.any(|(a, b)| a.trigger != b.trigger));
-    }
-
     /// A pair, with its list or its refusal.
     pub fn note_listed(&mut self, list: &Result<Vec<Entry>, Refusal>) {
         self.listed[usize::from(list.is_ok())] += 1;
@@ -95,11 +66,10 @@ impl Tally {
         (self.listed[1], self.entries[1..].iter().copied().min().unwrap_or(0))
     }
 
-    fn cells(&mut self) -> [&mut [u64]; 11] {
+    fn cells(&mut self) -> [&mut [u64]; 9] {
         [
             &mut self.check,
             &mut self.copy,
-            &mut self.triggers,
             &mut self.sample,
             &mut self.physical,
             &mut self.kinds,
@@ -107,7 +77,6 @@ impl Tally {
             &mut self.list,
             &mut self.entries,
             &mut self.listed,
-            &mut self.unlike,
         ]
     }
 
@@ -124,23 +93,16 @@ impl Tally {
         println!("{label}");
         line("check", counts(&self.check, 0));
         line("copy", counts(&self.copy, 0));
-        let [bare, comment, events, both] = self.triggers;
-        if bare + comment + events + both > 0 {
-            print!("  files copied with triggers: {bare} bare, {comment} with a comment alone, ");
-            println!("{events} with events alone, {both} with both");
-        }
         line("sample", with_kinds(counts(&self.sample, 0), &self.kinds));
         line("physical", counts(&self.physical, 0));
         line("compare", with_kinds(counts(&self.list, 0), &self.entries));
         let [refused, accepted] = self.listed;
         if refused + accepted > 0 {
-            print!("  pairs compared: {accepted} accepted, {refused} with a refused image; ");
-            println!("{} with unlike triggers", self.unlike[0]);
+            println!("  pairs compared: {accepted} accepted, {refused} with a refused image");
         }
         let [other, same] = self.pairs;
         if other + same > 0 {
-            print!("  pairs of images: {same} with equal readings and copies, ");
-            println!("{other} with neither");
+            println!("  pairs of images: {same} with equal readings and copies, {other} with neither");
         }
     }
 }

@@ -5,7 +5,7 @@ use Rattle.put_channels.proofs.Written.{small_written, written_length_lem}
 use Rattle.put_groups.proofs.Groups.{group_exact, group_over}
 use Rattle.answers.specs.Readings.{WellFormedGroup}
 use Rattle.answers.specs.Readings.{Group as ReadGroup}
-use Rattle.answers.specs.Copies.{body_length, trigger_length}
+use Rattle.answers.specs.Copies.{body_length}
 use Prim.Native.Nat.{ℕ}
 use mathlib.Core.List.{List}
 use mathlib.Core.Path.{◌≡◌, ◌∙◌}
@@ -14,23 +14,17 @@ use borrow.Author.Rules.{rules}
 use Rattle.put_groups.proofs.group_length.Statement.{statement}
 use Rattle.put_groups.proofs.group_length.Tie as tie
 
-trigger-length-requires : tie.Need-trigger-length-requires
-trigger-length-requires c κs = search rules
-
 comment-requires : tie.Need-comment-requires
 comment-requires c κs = search rules
 
 body-length-requires : tie.Need-body-length-requires
-body-length-requires c κs = small_written c.before.before.before.args.image.now c.comment.result c.comment.ensures.inside
+body-length-requires c κs = small_written c.before.before.args.image.now c.comment.result c.comment.ensures.inside
 
 add-n : tie.Need-overflow-add-n
 add-n c = search rules
 
 add-n-2 : tie.Need-overflow-add-n-2
 add-n-2 c = search rules
-
-add-n-3 : tie.Need-overflow-add-n-3
-add-n-3 c = search rules
 
 count-requires : tie.Need-count-requires
 count-requires c κs = search rules
@@ -41,16 +35,12 @@ size-requires c κs = search rules
 mul-n : tie.Need-overflow-mul-n
 mul-n c = omega (arith, product_small _ _ c.before.count.ensures.1 c.size.ensures.1)
 
-add-n-4 : tie.Need-overflow-add-n-4
-add-n-4 c =
-    let at-body-length = c.before.before.before in
-    let at-trigger-length = at-body-length.before.before in
-    let start = at-trigger-length.before.before in
-    omega (arith, product_small _ _ c.before.count.ensures.1 c.size.ensures.1, at-body-length.body-length.ensures.1, at-trigger-length.trigger-length.ensures.1, start.requires.1.near)
+add-n-3 : tie.Need-overflow-add-n-3
+add-n-3 c = omega (arith, product_small _ _ c.before.count.ensures.1 c.size.ensures.1, c.before.before.before.body-length.ensures.1, c.before.before.before.before.before.before.requires.1.near)
 
 -- behind the size: the start, the image, the group
 abbrev start : tie.After-size → tie.Start
-start w = w.before.before.before.before.before.before.before
+start w = w.before.before.before.before.before.before
 
 abbrev image : tie.After-size → List ℕ
 image w = (start w).args.image.now
@@ -59,7 +49,7 @@ abbrev group : tie.After-size → ReadGroup
 group w = the_group (image w) (start w).args.g
 
 formed : (w : tie.After-size) → WellFormedGroup (group w)
-formed w = group_well_formed _ _ _ _ (start w).requires.0 (known_bytes (image w) (λ i. omega (arith, w.before.before.before.before.before.before.shared-slice-known.given i)))
+formed w = group_well_formed _ _ _ _ (start w).requires.0 (known_bytes (image w) (λ i. omega (arith, w.before.before.before.before.before.shared-slice-known.given i)))
 
 -- the length of its comment
 commented : (w : tie.After-size) → w.before.before.before.body-length.result ≡ body_length (group w).comment
@@ -67,33 +57,27 @@ commented w =
     let at-body-length = w.before.before.before in
     at-body-length.body-length.ensures.0 ∙ written_length_lem (image w) at-body-length.before.comment.result at-body-length.before.comment.ensures
 
--- and that of its trigger
-triggered : (w : tie.After-size) → w.before.before.before.before.before.trigger-length.result ≡ trigger_length (group w).trigger
-triggered w = w.before.before.before.before.before.trigger-length.ensures.0
-
 returns : tie.Need-returns
 returns c =
     let w = c.before in
-    (group_over (group w) (formed w) _ _ _ _ _ (triggered w) (commented w) (start w).requires.1.length w.before.count.ensures.0 w.size.ensures.0 c.if1.true, omega arith, omega arith)
+    (group_over (group w) (formed w) _ _ _ _ (commented w) (start w).requires.1.length w.before.count.ensures.0 w.size.ensures.0 c.if1.true, omega arith, omega arith)
 
 returns-2 : tie.Need-returns-2
 returns-2 c =
     let w = c.before in
-    (group_exact (group w) (formed w) _ _ _ _ _ (triggered w) (commented w) (start w).requires.1.length w.before.count.ensures.0 w.size.ensures.0 (omega (arith, c.if1.false)), omega arith, omega (arith, c.if1.false))
+    (group_exact (group w) (formed w) _ _ _ _ (commented w) (start w).requires.1.length w.before.count.ensures.0 w.size.ensures.0 (omega (arith, c.if1.false)), omega arith, omega (arith, c.if1.false))
 
 pub group-length-spec : {M : Type 1} → statement M
 group-length-spec =
     tie.close
     (tie.spec
-    trigger-length-requires
     comment-requires
     body-length-requires
     add-n
     add-n-2
-    add-n-3
     count-requires
     size-requires
     mul-n
-    add-n-4
+    add-n-3
     returns
     returns-2)

@@ -10,7 +10,6 @@ mod physical;
 mod records;
 mod samples;
 mod start;
-mod triggers;
 
 use super::sheet::Sheet;
 use crate::sample::{Answer, Asked, Call};
@@ -108,7 +107,6 @@ pub fn all() -> Vec<Case> {
     opening::cases(&mut book);
     fields::cases(&mut book);
     limits::cases(&mut book);
-    triggers::cases(&mut book);
     records::cases(&mut book);
     order::cases(&mut book);
     copies::cases(&mut book);
@@ -137,43 +135,21 @@ pub struct Channel {
     pub display: usize,
 }
 
-/// Places of a trigger and its comment.
-#[derive(Clone, Copy)]
-pub struct Trigger {
-    pub tr: usize,
-    pub tx: usize,
-}
-
 /// A valid file with every kind of block. Data group 0 has mode 1, with
 /// groups 0 (channels 0 and 1) and 1 (channel 2); data group 1 has mode 0
-/// with group 2 (channel 3). Both have a trigger with a comment.
+/// with group 2 (channel 3).
 #[derive(Clone)]
 pub struct Full {
     pub sheet: Sheet,
     pub dg: [usize; 2],
-    pub triggers: [Trigger; 2],
     pub cg: [usize; 3],
     pub channels: [Channel; 4],
     pub data: [usize; 2],
 }
 
-pub const EVENT_COUNTS: [usize; 2] = [2, 1];
 pub const GROUP_IDS: [u16; 3] = [1, 2, 0];
 pub const GROUP_SIZES: [u16; 3] = [4, 2, 3];
 pub const GROUP_COUNTS: [u32; 3] = [2, 1, 2];
-
-/// The bytes of so many events; no two events are alike.
-pub fn events(count: usize) -> Vec<u8> {
-    (0..24 * count).map(|n| (n * 7 + n / 256) as u8).collect()
-}
-
-/// A trigger behind its comment.
-fn add_trigger(sheet: &mut Sheet, dg: usize, number: usize) -> Trigger {
-    let tx = sheet.block(b"TX", 8);
-    let tr = sheet.trigger(dg + 12, &events(EVENT_COUNTS[number]), 0);
-    sheet.put32(tr + 4, tx as u32);
-    Trigger { tr, tx }
-}
 
 fn add_channel(sheet: &mut Sheet, field: usize, bits: u16) -> Channel {
     let cn = sheet.linked(field, b"CN", 228);
@@ -206,14 +182,12 @@ pub fn full(with_records: bool) -> Full {
     sheet.linked(76, b"PR", 11);
     let dg0 = sheet.linked(68, b"DG", 28);
     sheet.put16(dg0 + 22, 1);
-    let trigger0 = add_trigger(&mut sheet, dg0, 0);
     let cg0 = add_group(&mut sheet, dg0 + 8, 0, with_records);
     let ch0 = add_channel(&mut sheet, cg0 + 8, 8);
     let ch1 = add_channel(&mut sheet, ch0.cn + 4, 32);
     let cg1 = add_group(&mut sheet, cg0 + 4, 1, with_records);
     let ch2 = add_channel(&mut sheet, cg1 + 8, 16);
     let dg1 = sheet.linked(dg0 + 4, b"DG", 28);
-    let trigger1 = add_trigger(&mut sheet, dg1, 1);
     let cg2 = add_group(&mut sheet, dg1 + 8, 2, with_records);
     let ch3 = add_channel(&mut sheet, cg2 + 8, 24);
     let data0 = sheet.append(&[1, 0, 0, 0, 0, 2, 0, 0, 1, 0, 0, 0, 0]);
@@ -223,7 +197,6 @@ pub fn full(with_records: bool) -> Full {
     Full {
         sheet,
         dg: [dg0, dg1],
-        triggers: [trigger0, trigger1],
         cg: [cg0, cg1, cg2],
         channels: [ch0, ch1, ch2, ch3],
         data: [data0, data1],

@@ -19,18 +19,10 @@ pub struct Content {
 
 #[derive(Clone)]
 pub struct Group {
-    pub trigger: Option<Trigger>,
     pub record_size: u16,
     pub comment: Body,
     pub channels: Vec<Channel>,
     pub records: Vec<Vec<u8>>,
-}
-
-#[derive(Clone, PartialEq, Eq)]
-pub struct Trigger {
-    /// 24 bytes for each event.
-    pub events: Vec<u8>,
-    pub comment: Body,
 }
 
 #[derive(Clone)]
@@ -63,29 +55,21 @@ impl Content {
     }
 
     /// A file of this content, with data groups of this mode or of any. In
-    /// mode 0 each group has one of its own; else some groups with the same
-    /// trigger share one. Some data groups without groups stand between.
+    /// mode 0 each group has one of its own; else some groups share one.
     pub fn lay_down(&self, rng: &mut Rng, mode: Option<u16>) -> Vec<u8> {
         let mut sheet = self.start(rng);
         put_body(&mut sheet, 72, b"TX", &self.comment);
         put_body(&mut sheet, 76, b"PR", &self.program);
         let mut field = 68;
-        let mut triggers = Vec::new();
         let mut rest = &self.groups[..];
         while !rest.is_empty() {
             if rng.chance(10) {
-                let dg = sheet.linked(field, b"DG", 28);
-                field = dg + 4;
-                let idle = &self.groups[rng.below(self.groups.len())];
-                put_trigger(&mut sheet, rng, dg, &idle.trigger, &mut triggers);
+                field = sheet.linked(field, b"DG", 28) + 4;
             }
             let mode = mode.unwrap_or_else(|| rng.below(3) as u16);
-            let alike = rest.iter().take_while(|group| group.trigger == rest[0].trigger);
-            let most = if mode == 0 { 1 } else { alike.count().min(256) };
+            let most = if mode == 0 { 1 } else { rest.len().min(256) };
             let (some, more) = rest.split_at(rng.between(1, most));
-            let dg = put_data_group(&mut sheet, rng, field, mode, some);
-            put_trigger(&mut sheet, rng, dg, &some[0].trigger, &mut triggers);
-            field = dg + 4;
+            field = put_data_group(&mut sheet, rng, field, mode, some) + 4;
             rest = more;
         }
         sheet.bytes
@@ -108,31 +92,6 @@ fn put_body(sheet: &mut Sheet, field: usize, kind: &[u8; 2], body: &Body) {
         let place = sheet.linked(field, kind, 4 + bytes.len());
         sheet.put(place + 4, bytes);
     }
-}
-
-/// The trigger of a data group: one that stands there already, or a new one,
-/// at times with bytes behind its events.
-fn put_trigger<'a>(
-    sheet: &mut Sheet,
-    rng: &mut Rng,
-    dg: usize,
-    trigger: &'a Option<Trigger>,
-    there: &mut Vec<(&'a Trigger, usize)>,
-) {
-    let trigger = match trigger {
-        Some(trigger) => trigger,
-        None => return,
-    };
-    let same = there.iter().find(|(other, _)| *other == trigger);
-    if let Some(&(_, tr)) = same.filter(|_| rng.chance(50)) {
-        return sheet.put32(dg + 12, tr as u32);
-    }
-    let spare = rng.pick(&[0, 0, 1, 5, 24, 50]);
-    let tr = sheet.trigger(dg + 12, &trigger.events, spare);
-    let rubbish = rng.bytes(spare);
-    sheet.put(tr + 10 + trigger.events.len(), &rubbish);
-    put_body(sheet, tr + 4, b"TX", &trigger.comment);
-    there.push((trigger, tr));
 }
 
 /// Hands back the data group's place.

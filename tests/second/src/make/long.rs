@@ -37,20 +37,6 @@ pub fn with_copy_of(length: u64) -> Sheet {
     sheet
 }
 
-/// The same, where all data groups share a trigger of so many events too,
-/// with a comment of this size; none for 0.
-pub fn with_trigger(length: u64, events: u64, comment: u64) -> Sheet {
-    let mut sheet = with_copy_of(length - GROUPS * (10 + 24 * events + comment));
-    // The data groups are the last blocks.
-    let first = sheet.len() - 24 * GROUPS as usize;
-    let tr = sheet.trigger(first + 12, &vec![0x45; 24 * events as usize], 0);
-    text(&mut sheet, tr + 4, comment);
-    for number in 0..GROUPS as usize {
-        sheet.put32(first + 24 * number + 12, tr as u32);
-    }
-    sheet
-}
-
 fn text(sheet: &mut Sheet, field: usize, size: u64) {
     if size > 0 {
         let tx = sheet.linked(field, b"TX", size as usize);

@@ -18,9 +18,8 @@ pub fn damage(rng: &mut Rng, made: &Made) -> Vec<u8> {
             55..=58 => make_loop(rng, made, &mut bytes),
             59..=77 => rewrite_field(rng, made, &mut bytes),
             78..=80 => empty_record(rng, made, &mut bytes),
-            81..=86 => change_data(rng, made, &mut bytes),
-            87..=91 => change_trigger(rng, made, &mut bytes),
-            92..=96 => change_identification(rng, &mut bytes),
+            81..=88 => change_data(rng, made, &mut bytes),
+            89..=94 => change_identification(rng, &mut bytes),
             _ => swap_fields(rng, made, &mut bytes),
         }
     }
@@ -160,12 +159,6 @@ fn make_loop(rng: &mut Rng, made: &Made, bytes: &mut [u8]) {
     }
 }
 
-/// Sizes on both sides of those that blocks have at least.
-const SIZES: [u64; 19] =
-    [0, 3, 4, 5, 6, 9, 10, 24, 26, 29, 30, 33, 34, 46, 164, 218, 227, 228, 65535];
-/// What a trigger may be called, the first being right.
-const NAMES: [u64; 6] = [0x5254, 0x5854, 0x4744, 0x7274, 0x5255, 0x5454];
-
 fn rewrite_field(rng: &mut Rng, made: &Made, bytes: &mut [u8]) {
     let is_field = |w| !matches!(w, What::Next | What::Link | What::Data);
     let site = match pick_site(rng, made, is_field) {
@@ -176,9 +169,7 @@ fn rewrite_field(rng: &mut Rng, made: &Made, bytes: &mut [u8]) {
     let near = [old.wrapping_add(1), old.wrapping_sub(1), old.wrapping_add(8)];
     let any = rng.raw();
     let values: &[u64] = match site.what {
-        What::Identifier => &NAMES,
-        What::BlockSize => &SIZES,
-        What::EventCount => &[0, 1, 2, 3, 255, 256, 2730, 2731, 8192, 65535],
+        What::BlockSize => &[0, 3, 4, 5, 6, 24, 26, 29, 30, 46, 164, 218, 227, 228, 65535],
         What::Mode => &[0, 1, 2, 3, 256, 65535],
         What::RecordId => &[0, 1, 2, 3, 255, 256, 257, 65535],
         What::RecordSize => &[0, 0, 1, 2, 8, 255, 65535],
@@ -204,34 +195,6 @@ fn empty_record(rng: &mut Rng, made: &Made, bytes: &mut [u8]) {
         write(bytes, site.place, 0, 2);
         let count = rng.pick(&[0, 1, 1, 2, 0x0100_0000, 0xFFFF_FFFF]);
         write(bytes, site.place + 2, count, 4);
-    }
-}
-
-/// Gives a trigger a size near the one its events need, a count near the
-/// one it has room for, or another comment.
-fn change_trigger(rng: &mut Rng, made: &Made, bytes: &mut [u8]) {
-    let places = made.blocks.iter().filter(|block| block.0 == *b"TR");
-    let places: Vec<usize> = places.map(|block| block.1).collect();
-    if places.is_empty() {
-        return rewrite_field(rng, made, bytes);
-    }
-    let tr = rng.pick(&places);
-    match rng.below(3) {
-        0 => {
-            let needed = 10 + 24 * read(bytes, tr + 8, 2);
-            let size = rng.pick(&[needed - 1, needed, needed + 1, 9, 10, 65_535]);
-            write(bytes, tr + 2, size, 2);
-        }
-        1 => {
-            let room = read(bytes, tr + 2, 2).saturating_sub(10) / 24;
-            let count = rng.pick(&[room, room + 1, room + 256, room + 8_192, 0]);
-            write(bytes, tr + 8, count, 2);
-        }
-        _ => {
-            let any = rng.pick(&made.blocks).1;
-            let text = rng.pick(&[0, tr, tr + 10, any, bytes.len().saturating_sub(1)]);
-            write(bytes, tr + 4, text as u64, 4);
-        }
     }
 }
 

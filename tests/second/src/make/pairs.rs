@@ -1,9 +1,8 @@
 //! Pairs of files: named ones, whose difference lists follow from how they
 //! were made, and random ones.
 
-use super::content::{Body, Channel, Content, Group, Trigger};
+use super::content::{Body, Channel, Content, Group};
 use super::rng::Rng;
-use super::sheet::Sheet;
 use super::{vary, Drawn};
 use crate::differences::{entry, Entry};
 use crate::mdf::Refusal;
@@ -55,25 +54,10 @@ impl Book {
         change: impl FnOnce(&mut Content),
         list: &[Numbers],
     ) {
-        self.changed_from(base(), name, change, list);
-    }
-
-    fn changed_from(
-        &mut self,
-        one: Content,
-        name: impl Into<String>,
-        change: impl FnOnce(&mut Content),
-        list: &[Numbers],
-    ) {
+        let one = base();
         let mut other = one.clone();
         change(&mut other);
         self.add(name, &one, &other, list);
-    }
-
-    /// Two images that say the same.
-    fn same(&mut self, name: impl Into<String>, one: &Sheet, other: &Sheet) {
-        let (one, other) = (one.bytes.clone(), other.bytes.clone());
-        self.pairs.push(Pair { name: name.into(), one, other, told: Told::List(Vec::new()) });
     }
 }
 
@@ -85,9 +69,6 @@ pub fn all() -> Vec<Pair> {
     versions(&mut book);
     texts(&mut book);
     group_fields(&mut book);
-    triggers(&mut book);
-    trigger_lists(&mut book);
-    trigger_layouts(&mut book);
     channel_fields(&mut book);
     channel_bodies(&mut book);
     channel_lists(&mut book);
@@ -164,52 +145,27 @@ fn base() -> Content {
         program: text(b"program"),
         groups: vec![
             Group {
-                trigger: None,
                 record_size: 4,
                 comment: text(b"group"),
                 channels: vec![with_bodies(0), with_bodies(1)],
                 records: records(0, 4, 5),
             },
             Group {
-                trigger: None,
                 record_size: 3,
                 comment: None,
                 channels: (2..5).map(|n| channel(n, Default::default())).collect(),
                 records: records(50, 3, 4),
             },
             Group {
-                trigger: None,
                 record_size: 2,
                 comment: text(b""),
                 channels: vec![channel(5, empty)],
                 records: records(100, 2, 6),
             },
-            Group {
-                trigger: None,
-                record_size: 0,
-                comment: None,
-                channels: vec![],
-                records: vec![],
-            },
+            Group { record_size: 0, comment: None, channels: vec![], records: vec![] },
         ],
     };
     content.set_version(330);
-    content
-}
-
-/// A trigger with so many events, of which no two bytes are alike.
-fn trigger(count: u8, comment: Option<&[u8]>) -> Option<Trigger> {
-    let events = (0..24 * count).map(|n| n ^ 0x55).collect();
-    Some(Trigger { events, comment: comment.map(<[u8]>::to_vec) })
-}
-
-/// The base, all groups with one trigger: in modes 1 and 2 they may share a
-/// data group.
-fn with_trigger(trigger: Option<Trigger>) -> Content {
-    let mut content = base();
-    for group in &mut content.groups {
-        group.trigger = trigger.clone();
-    }
     content
 }
 
@@ -318,161 +274,6 @@ fn group_fields(book: &mut Book) {
     book.changed("record size and comment", both, &[(3, 3, 0, 0)]);
 }
 
-/// What differs between two triggers, and the two.
-type Change = (String, Option<Trigger>, Option<Trigger>);
-
-fn trigger_changes() -> Vec<Change> {
-    let (empty, text) = (Some(&b""[..]), Some(&b"auger"[..]));
-    let plain = trigger(2, None);
-    let one = trigger(1, None);
-    let told = Trigger { events: Vec::new(), comment: one.clone().map(|one| one.events) };
-    let changes = [
-        ("absent or without events", None, trigger(0, None)),
-        ("absent or with an empty comment", None, trigger(0, empty)),
-        ("absent or there", None, trigger(2, text)),
-        ("none or one event", trigger(0, None), one.clone()),
-        ("one or two events", trigger(1, text), trigger(2, text)),
-        ("two or five events", plain.clone(), trigger(5, None)),
-        ("comment absent or empty", plain.clone(), trigger(2, empty)),
-        ("no events, comment absent or empty", trigger(0, None), trigger(0, empty)),
-        ("comment absent or there", plain.clone(), trigger(2, text)),
-        ("comment empty or there", trigger(2, empty), trigger(2, text)),
-        ("comment longer", trigger(1, text), trigger(1, Some(b"augers"))),
-        ("comment another", trigger(1, text), trigger(1, Some(b"anger"))),
-        ("bytes of an event or a comment", one, Some(told)),
-    ];
-    let mut list: Vec<Change> = changes.map(|(name, a, b)| (name.to_string(), a, b)).to_vec();
-    for at in 0..48 {
-        let flipped = plain.clone().map(|mut trigger| {
-            trigger.events[at] ^= 0x80;
-            trigger
-        });
-        list.push((format!("byte {at} of its events"), plain.clone(), flipped));
-    }
-    list
-}
-
-/// Each of them in one group, and in all of them.
-fn triggers(book: &mut Book) {
-    for (n, (name, one, other)) in trigger_changes().into_iter().enumerate() {
-        let number = n % 4;
-        let of = |trigger: &Option<Trigger>| {
-            let mut content = base();
-            content.groups[number].trigger = trigger.clone();
-            content
-        };
-        let list = [0, 1, 2, 3].map(|group| (3, group, 0, 0));
-        let told = format!("trigger of group {number}, {name}");
-        book.add(told, &of(&one), &of(&other), &list[number..=number]);
-        let [one, other] = [one, other].map(with_trigger);
-        book.add(format!("trigger of all groups, {name}"), &one, &other, &list);
-    }
-}
-
-/// Triggers and other things that differ.
-fn trigger_lists(book: &mut Book) {
-    let text = Some(&b"auger"[..]);
-    let [two, three] = [2, 3].map(|count| with_trigger(trigger(count, text)));
-    book.add("equal triggers", &two, &two, &[]);
-    // With the record size and the comment it is one entry.
-    let all = |c: &mut Content| {
-        c.groups[3].trigger = None;
-        c.groups[3].record_size = 9;
-        c.groups[3].comment = Some(vec![]);
-    };
-    book.changed_from(two.clone(), "trigger, record size, comment", all, &[(3, 3, 0, 0)]);
-    let others = |c: &mut Content| {
-        c.groups[1].trigger = None;
-        c.groups[1].channels[2].added_offset = 1;
-        c.groups[1].records[3][2] ^= 1;
-        c.groups.push(three.groups[0].clone());
-    };
-    let list = [(3, 1, 0, 0), (3, 1, 3, 0), (4, 1, 3, 2), (2, 4, 0, 0)];
-    book.changed_from(two.clone(), "trigger, channel, record, group", others, &list);
-    let text_moved = |c: &mut Content| {
-        let comment = c.groups[0].comment.take();
-        c.groups[0].trigger = trigger(2, comment.as_deref());
-    };
-    book.changed_from(two.clone(), "comment as the trigger's", text_moved, &[(3, 0, 0, 0)]);
-    let mut mixed = two;
-    mixed.groups[1].trigger = three.groups[1].trigger.clone();
-    let exchanged = |c: &mut Content| {
-        c.groups[0].trigger = three.groups[0].trigger.clone();
-        c.groups[1].trigger = c.groups[2].trigger.clone();
-    };
-    let list = [(3, 0, 0, 0), (3, 1, 0, 0)];
-    book.changed_from(mixed.clone(), "triggers exchanged", exchanged, &list);
-    let alike = |c: &mut Content| c.groups[1].trigger = c.groups[0].trigger.clone();
-    book.changed_from(mixed, "trigger of the group before", alike, &[(3, 1, 0, 0)]);
-}
-
-/// Two data groups with a group each; their places.
-fn two_groups() -> (Sheet, [usize; 2]) {
-    let mut sheet = Sheet::new(300, 164);
-    let first = sheet.linked(68, b"DG", 24);
-    let second = sheet.linked(first + 4, b"DG", 24);
-    for dg in [first, second] {
-        sheet.linked(dg + 8, b"CG", 26);
-    }
-    (sheet, [first, second])
-}
-
-/// Appends a trigger with bytes behind its events, and its comment.
-fn put_trigger(sheet: &mut Sheet, dg: usize, spare: usize) -> usize {
-    let tr = sheet.trigger(dg + 12, &[0x45; 48], spare);
-    sheet.put(tr + 58, &vec![0xEE; spare]);
-    let tx = sheet.linked(tr + 4, b"TX", 9);
-    sheet.put(tx + 4, b"auger");
-    tr
-}
-
-/// Two groups with the same trigger; places of data groups and triggers.
-fn two_triggers(order: [usize; 2], gap: usize, spare: usize) -> (Sheet, [usize; 2], [usize; 2]) {
-    let (mut sheet, dg) = two_groups();
-    let triggers = order.map(|number| {
-        sheet.append(&vec![0x54; gap]);
-        put_trigger(&mut sheet, dg[number], spare)
-    });
-    (sheet, dg, triggers)
-}
-
-/// Both groups in the first data group, with IDs.
-fn joined() -> Sheet {
-    let (mut sheet, dg, _) = two_triggers([1, 0], 0, 0);
-    // The groups stand behind the data groups.
-    let [first, second] = [dg[1] + 24, dg[1] + 50];
-    sheet.put16(dg[0] + 22, 1);
-    sheet.put32(dg[0] + 4, 0);
-    sheet.put32(first + 4, second as u32);
-    sheet.put16(second + 16, 1);
-    sheet
-}
-
-/// The same said in several ways.
-fn trigger_layouts(book: &mut Book) {
-    let (plain, ..) = two_triggers([0, 1], 0, 0);
-    book.same("triggers elsewhere", &plain, &two_triggers([1, 0], 77, 0).0);
-    for spare in [1, 23, 24, 25, 1_000, 65_535 - 58] {
-        let name = format!("{spare} bytes behind the events");
-        book.same(name, &plain, &two_triggers([0, 1], 0, spare).0);
-    }
-    let (mut over, _, triggers) = two_triggers([0, 1], 3, 0);
-    for tr in triggers {
-        over.put16(tr + 2, (over.len() - tr) as u16);
-    }
-    book.same("triggers to the end", &plain, &over);
-    let (mut shared, dg, triggers) = two_triggers([0, 1], 0, 5);
-    shared.put32(dg[1] + 12, triggers[0] as u32);
-    book.same("one trigger for two data groups", &plain, &shared);
-    let (mut empty, dg, triggers) = two_triggers([0, 1], 0, 0);
-    let last = empty.linked(dg[1] + 4, b"DG", 24);
-    empty.put32(last + 12, triggers[1] as u32);
-    book.same("trigger of an empty data group", &plain, &empty);
-    empty.trigger(last + 12, &[9; 24], 0);
-    book.same("another trigger of an empty data group", &plain, &empty);
-    book.same("both groups in one data group", &plain, &joined());
-}
-
 fn channel_fields(book: &mut Book) {
     for (group, channel) in [(0, 0), (0, 1), (1, 0), (1, 2), (2, 0)] {
         let list = [(3, group, channel + 1, 0)];
@@ -538,7 +339,7 @@ fn channel_lists(book: &mut Book) {
 /// A group of records of one byte and no channels.
 fn small(records: &[u8]) -> Group {
     let records = records.iter().map(|&byte| vec![byte]).collect();
-    Group { trigger: None, record_size: 1, comment: None, channels: vec![], records }
+    Group { record_size: 1, comment: None, channels: vec![], records }
 }
 
 fn group_lists(book: &mut Book) {
@@ -735,7 +536,6 @@ fn refusals(book: &mut Book) {
         image
     };
     let refusal = |number, place| Refusal { number, place };
-    let trigger = u32::from_le_bytes([68, 69, 70, 71].map(|at| good[at])) as usize + 12;
     let bad = [
         (vec![], refusal(2, 0)),
         (with(0, b"UnFinMF "), refusal(3, 0)),
@@ -746,7 +546,6 @@ fn refusals(book: &mut Book) {
         (with(66, &[255; 2]), refusal(19, 64)),
         (with(72, &[1, 0, 0, 0]), refusal(17, 72)),
         (with(68, &[255; 4]), refusal(5, 68)),
-        (with(trigger, &[64, 0, 0, 0]), refusal(17, trigger as u64)),
     ];
     for (n, (one, first)) in bad.iter().enumerate() {
         for (m, (other, second)) in bad.iter().enumerate() {

@@ -1,9 +1,8 @@
 //! A growing image written block by block.
 
-pub const KINDS: [([u8; 2], usize); 9] = [
+pub const KINDS: [([u8; 2], usize); 8] = [
     (*b"HD", 164),
     (*b"DG", 24),
-    (*b"TR", 10),
     (*b"CG", 26),
     (*b"CN", 218),
     (*b"CC", 46),
@@ -58,15 +57,6 @@ impl Sheet {
         let place = self.block(kind, size);
         self.put32(field, place as u32);
         place
-    }
-
-    /// Appends a trigger with these events and so many zeros behind them,
-    /// and lets a link field lead to it.
-    pub fn trigger(&mut self, field: usize, events: &[u8], spare: usize) -> usize {
-        let tr = self.linked(field, b"TR", 10 + events.len() + spare);
-        self.put16(tr + 8, (events.len() / 24) as u16);
-        self.put(tr + 10, events);
-        tr
     }
 
     /// Appends plain bytes and hands back their place.

@@ -13,9 +13,7 @@ pub enum What {
     Link,
     Barred,
     Data,
-    Identifier,
     BlockSize,
-    EventCount,
     Mode,
     RecordId,
     RecordSize,
@@ -39,14 +37,10 @@ const FIELDS: &[(&[u8; 2], usize, usize, What)] = &[
     (b"DG", 2, 2, What::BlockSize),
     (b"DG", 4, 4, What::Next),
     (b"DG", 8, 4, What::Link),
-    (b"DG", 12, 4, What::Link),
+    (b"DG", 12, 4, What::Barred),
     (b"DG", 16, 4, What::Data),
     (b"DG", 20, 2, What::Idle),
     (b"DG", 22, 2, What::Mode),
-    (b"TR", 0, 2, What::Identifier),
-    (b"TR", 2, 2, What::BlockSize),
-    (b"TR", 4, 4, What::Link),
-    (b"TR", 8, 2, What::EventCount),
     (b"CG", 2, 2, What::BlockSize),
     (b"CG", 4, 4, What::Next),
     (b"CG", 8, 4, What::Link),
@@ -160,10 +154,9 @@ fn set32(bytes: &mut [u8], at: usize, value: u32) {
 
 impl Plan {
     /// Whether every layout of the blocks reads the same: no records lie
-    /// over whatever is there, and no link lies inside another block.
+    /// over whatever is there.
     pub fn has_one_reading(&self) -> bool {
-        let linked_inside = |node: &Node| node.inside.is_some() && !node.links.is_empty();
-        self.anywhere.is_empty() && !self.nodes.iter().any(linked_inside)
+        self.anywhere.is_empty()
     }
 
     fn add(&mut self, kind: &[u8; 2], bytes: Vec<u8>) -> usize {
@@ -205,7 +198,6 @@ impl Plan {
         }
         Some(match kind {
             b"CC" => self.conversion(rng),
-            b"TR" => self.trigger(rng),
             b"CE" => {
                 let size = 6 + if rng.chance(40) { 0 } else { rng.below(24) };
                 self.block(rng, kind, size)
@@ -221,36 +213,15 @@ impl Plan {
             size += rng.below(1500);
         }
         let node = self.block(rng, kind, size);
-        self.put_inside(rng, node);
-        node
-    }
-
-    /// Lets a block lie inside another one now and then, where it fits.
-    fn put_inside(&mut self, rng: &mut Rng, node: usize) {
-        if !rng.chance(10) || self.hosts.is_empty() {
-            return;
+        if rng.chance(10) && !self.hosts.is_empty() {
+            let chosen = rng.below(self.hosts.len());
+            let (host, offset, room) = self.hosts[chosen];
+            if size <= room {
+                self.hosts.swap_remove(chosen);
+                let shift = rng.below(room - size + 1);
+                self.nodes[node].inside = Some((host, offset + shift));
+            }
         }
-        let chosen = rng.below(self.hosts.len());
-        let (host, offset, room) = self.hosts[chosen];
-        let size = self.nodes[node].bytes.len();
-        if size <= room {
-            self.hosts.swap_remove(chosen);
-            let shift = rng.below(room - size + 1);
-            self.nodes[node].inside = Some((host, offset + shift));
-        }
-    }
-
-    /// A trigger. Its events and the bytes behind them may hold a text, even
-    /// its comment.
-    fn trigger(&mut self, rng: &mut Rng) -> usize {
-        let events = if rng.chance(2) { rng.below(600) } else { rng.pick(&[0, 0, 1, 1, 2, 3, 5]) };
-        let spare = rng.pick(&[0, 0, 0, 0, 1, 7, 23, 24, 25, 60]);
-        let node = self.block(rng, b"TR", 10 + 24 * events + spare);
-        set16(&mut self.nodes[node].bytes, 8, events);
-        self.put_inside(rng, node);
-        self.hosts.push((node, 10, 24 * events + spare));
-        let comment = self.body(rng, b"TX", 60);
-        self.link(node, 4, comment);
         node
     }
 
@@ -364,8 +335,7 @@ impl Plan {
         let node = self.block(rng, b"DG", size);
         set16(&mut self.nodes[node].bytes, 22, usize::from(mode));
         self.link(node, 4, next);
-        let trigger = self.body(rng, b"TR", 35);
-        self.link(node, 12, trigger);
+        self.link(node, 12, None);
         let (first, shapes) = self.groups(rng, mode);
         self.link(node, 8, first);
         self.data_link(rng, node, mode, shapes);
@@ -537,7 +507,6 @@ pub fn lay_down(rng: &mut Rng, plan: &Plan) -> Made {
         bytes.resize(needed, 0);
     }
     fill_links(rng, plan, &places, &mut bytes);
-    stretch_triggers(rng, plan, &places, &mut bytes);
     describe(plan, &places, bytes)
 }
 
@@ -551,18 +520,6 @@ fn fill_links(rng: &mut Rng, plan: &Plan, places: &[usize], bytes: &mut [u8]) {
         let last = bytes.len() - length;
         let place = if rng.chance(25) { last } else { rng.between(1, last) };
         set32(bytes, places[node] + 16, place as u32);
-    }
-}
-
-/// Lets some triggers that do not lie in others reach over what is behind
-/// them, at times to the end of the image: that is no part of them.
-fn stretch_triggers(rng: &mut Rng, plan: &Plan, places: &[usize], bytes: &mut [u8]) {
-    for (node, &place) in plan.nodes.iter().zip(places) {
-        if node.kind == *b"TR" && node.inside.is_none() && rng.chance(15) {
-            let most = (bytes.len() - place).min(65_535);
-            let any = rng.between(node.bytes.len(), most);
-            set16(bytes, place + 2, rng.pick(&[any, most]));
-        }
     }
 }
 

@@ -1,6 +1,6 @@
 //! Random contents, and changes that leave a file accepted.
 
-use super::content::{Body, Channel, Content, Group, Trigger};
+use super::content::{Body, Channel, Content, Group};
 use super::rng::Rng;
 
 pub fn content(rng: &mut Rng) -> Content {
@@ -17,12 +17,7 @@ pub fn content(rng: &mut Rng) -> Content {
     content.comment = body(rng, 0);
     content.program = body(rng, 0);
     for _ in 0..rng.pick(&[0, 1, 1, 2, 2, 3, 5]) {
-        let mut next = group(rng);
-        // With the same trigger it may be in one data group with the one before.
-        if let Some(before) = content.groups.last().filter(|_| rng.chance(60)) {
-            next.trigger = before.trigger.clone();
-        }
-        content.groups.push(next);
+        content.groups.push(group(rng));
     }
     content
 }
@@ -71,18 +66,12 @@ fn position(rng: &mut Rng, channel: &mut Channel) {
     channel.added_offset = if somewhere && rng.chance(50) { rng.raw() as u16 } else { 0 };
 }
 
-fn trigger(rng: &mut Rng) -> Trigger {
-    let events = 24 * rng.pick(&[0, 1, 1, 2, 3, 7]);
-    Trigger { events: rng.bytes(events), comment: body(rng, 0) }
-}
-
 fn group(rng: &mut Rng) -> Group {
-    let trigger = rng.chance(40).then(|| trigger(rng));
     let size = rng.pick(&[1, 1, 2, 3, 4, 8, 21]);
     let channels = (0..rng.below(4)).map(|_| channel(rng)).collect();
     let count = if rng.chance(5) { rng.below(300) } else { rng.pick(&[0, 1, 2, 3, 5, 8]) };
     let records = (0..count).map(|_| rng.bytes(size)).collect();
-    Group { trigger, record_size: size as u16, comment: body(rng, 0), channels, records }
+    Group { record_size: size as u16, comment: body(rng, 0), channels, records }
 }
 
 /// Flips a bit of one byte.
@@ -141,7 +130,7 @@ fn change_list<T>(rng: &mut Rng, list: &mut Vec<T>, fresh: fn(&mut Rng) -> T) {
 }
 
 fn change_group(rng: &mut Rng, group: &mut Group) {
-    match rng.below(115) {
+    match rng.below(100) {
         0..=9 => group.comment = changed(rng, &group.comment),
         10..=19 => resize(rng, group),
         20..=29 => change_list(rng, &mut group.channels, channel),
@@ -156,7 +145,6 @@ fn change_group(rng: &mut Rng, group: &mut Group) {
         65..=69 => {
             group.records.pop();
         }
-        100.. => change_trigger(rng, group),
         _ if group.records.is_empty() => group.comment = changed(rng, &group.comment),
         70..=76 => {
             group.records.remove(rng.below(group.records.len()));
@@ -166,18 +154,6 @@ fn change_group(rng: &mut Rng, group: &mut Group) {
             let number = rng.below(group.records.len());
             flip(rng, &mut group.records[number]);
         }
-    }
-}
-
-/// Another trigger: gone or there, with other events or another comment.
-fn change_trigger(rng: &mut Rng, group: &mut Group) {
-    match (&mut group.trigger, rng.below(10)) {
-        (None, _) => group.trigger = Some(trigger(rng)),
-        (Some(_), 0..=1) => group.trigger = None,
-        (Some(old), 2..=5) => flip(rng, &mut old.events),
-        (Some(old), 6) => old.events.truncate(old.events.len().saturating_sub(24)),
-        (Some(old), 7) => old.events.extend(rng.bytes(24)),
-        (Some(old), _) => old.comment = changed(rng, &old.comment),
     }
 }
 

@@ -1,7 +1,7 @@
 //! Canonical copies laid down by hand, beside images that have them.
 
 use super::super::sheet::Sheet;
-use super::{events, full, logged, Book, Full, EVENT_COUNTS, GROUP_COUNTS, GROUP_SIZES};
+use super::{full, logged, Book, Full, GROUP_COUNTS, GROUP_SIZES};
 
 pub fn cases(book: &mut Book) {
     headers(book);
@@ -20,8 +20,8 @@ pub fn cases(book: &mut Book) {
 
 /// A copy in the making: the last data group, channel group and link field
 /// that the next block of a list goes to.
-pub struct Laid {
-    pub sheet: Sheet,
+struct Laid {
+    sheet: Sheet,
     groups: u16,
     next_dg: usize,
     dg: usize,
@@ -30,44 +30,21 @@ pub struct Laid {
 }
 
 impl Laid {
-    pub fn new(version: u16) -> Laid {
+    fn new(version: u16) -> Laid {
         let sheet = Sheet::new(version, if version < 320 { 164 } else { 208 });
         Laid { sheet, groups: 0, next_dg: 68, dg: 0, cg: 0, next_cn: 0 }
     }
 
     /// A data group and its channel group.
-    pub fn group(&mut self, record_size: u16) {
-        self.data_group();
-        self.channel_group(record_size);
-    }
-
-    /// A data group, its trigger, the trigger's comment and its channel group.
-    pub fn triggered(&mut self, record_size: u16, events: &[u8], comment: Option<&[u8]>) {
-        self.data_group();
-        let tr = self.sheet.trigger(self.dg + 12, events, 0);
-        if let Some(bytes) = comment {
-            put_text(&mut self.sheet, tr + 4, bytes);
-        }
-        self.channel_group(record_size);
-    }
-
-    fn data_group(&mut self) {
+    fn group(&mut self, record_size: u16) {
         self.groups += 1;
         self.sheet.put16(80, self.groups);
         self.dg = self.sheet.linked(self.next_dg, b"DG", 28);
         self.sheet.put16(self.dg + 20, 1);
         self.next_dg = self.dg + 4;
-    }
-
-    fn channel_group(&mut self, record_size: u16) {
         self.cg = self.sheet.linked(self.dg + 8, b"CG", 30);
         self.sheet.put16(self.cg + 20, record_size);
         self.next_cn = self.cg + 8;
-    }
-
-    /// The channel group's comment.
-    pub fn comment(&mut self, bytes: &[u8]) {
-        put_text(&mut self.sheet, self.cg + 12, bytes);
     }
 
     /// A channel of the group; `number` counts it from 1.
@@ -78,17 +55,11 @@ impl Laid {
         cn
     }
 
-    pub fn records(&mut self, count: u32, bytes: &[u8]) {
+    fn records(&mut self, count: u32, bytes: &[u8]) {
         self.sheet.put32(self.cg + 22, count);
         let data = self.sheet.append(bytes);
         self.sheet.put32(self.dg + 16, data as u32);
     }
-}
-
-/// A text of these bytes, behind a link field.
-pub fn put_text(sheet: &mut Sheet, field: usize, bytes: &[u8]) {
-    let tx = sheet.linked(field, b"TX", 4 + bytes.len());
-    sheet.put(tx + 4, bytes);
 }
 
 /// A block filled with one byte, behind a link field.
@@ -162,9 +133,6 @@ fn marked_full() -> Full {
         sheet.put16(dg + 20, 78);
         sheet.put32(dg + 24, 0x7979_7979);
     }
-    for (n, trigger) in file.triggers.into_iter().enumerate() {
-        sheet.put(trigger.tx + 4, &[0x70 + n as u8; 4]);
-    }
     for (n, cg) in file.cg.into_iter().enumerate() {
         sheet.put16(cg + 18, 80);
         sheet.put(cg + 30 + 4, &[0x10 + n as u8; 5]);
@@ -192,9 +160,7 @@ fn every_block(book: &mut Book) {
     let records: [&[u8]; 3] =
         [&[3, 4, 5, 6, 9, 10, 11, 12], &[7, 8], &[13, 14, 15, 16, 17, 18]];
     for group in 0..3 {
-        let dg = group / 2;
-        let comment = [0x70 + dg as u8; 4];
-        copy.triggered(GROUP_SIZES[group], &events(EVENT_COUNTS[dg]), Some(&comment));
+        copy.group(GROUP_SIZES[group]);
         filled(&mut copy.sheet, copy.cg + 12, b"TX", 9, 0x10 + group as u8);
         for (index, &(channel, bits)) in channels[group].iter().enumerate() {
             let cn = copy.channel(index as u16 + 1);

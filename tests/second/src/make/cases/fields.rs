@@ -33,6 +33,7 @@ fn with32(file: &Full, place: usize, value: u32) -> Vec<u8> {
 
 fn barred_links(book: &mut Book, file: &Full) {
     let mut fields = Vec::new();
+    fields.extend(file.dg.iter().map(|dg| ("trigger", dg + 12)));
     fields.extend(file.cg.iter().map(|cg| ("sample reduction", cg + 26)));
     fields.extend(file.channels.iter().map(|ch| ("dependency", ch.cn + 16)));
     for (label, place) in fields {
@@ -301,10 +302,6 @@ fn idle_fields(book: &mut Book, file: &Full) {
     for dg in file.dg {
         sheet.put16(dg + 20, 65535);
         sheet.put32(dg + 24, 0xFFFF_FFFF);
-    }
-    for trigger in file.triggers {
-        sheet.put(trigger.tr + 10, &[0xFF; 24]);
-        sheet.put(trigger.tx + 4, &[0xFF; 4]);
     }
     for cg in file.cg {
         sheet.put16(cg + 18, 65535);

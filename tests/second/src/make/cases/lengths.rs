@@ -9,7 +9,6 @@ const WRAP: u64 = 1 << 32;
 pub fn cases(book: &mut Book) {
     shared_records(book);
     shared_bodies(book);
-    shared_triggers(book);
     for mode in [1, 2] {
         // 6, 254 and 2,168 million bytes.
         for data_groups in [1, 40, 341] {
@@ -51,21 +50,6 @@ fn shared_records(book: &mut Book) {
         let sheet = long::with_copy_of(length);
         book.of_length(format!("shared records, copy of {length}"), &sheet.bytes, length);
         told(book, length);
-    }
-}
-
-/// A trigger and its comment count once for every group.
-fn shared_triggers(book: &mut Book) {
-    for (events, comment) in [(0, 0), (0, 4), (1, 0), (3, 9), (2_730, 65_535)] {
-        for length in [1_000_000, 140_000_000, LONGEST, LONGEST + 1, WRAP + 500_000] {
-            if length == 1_000_000 && events > 100 {
-                continue;
-            }
-            let sheet = long::with_trigger(length, events, comment);
-            let name = format!("shared trigger, {events} events, {comment}, copy of {length}");
-            book.of_length(name, &sheet.bytes, length);
-            told(book, length);
-        }
     }
 }
 

@@ -8,7 +8,6 @@ const LONE: u32 = 0xFFFF_FFFF;
 pub fn cases(book: &mut Book) {
     data_groups(book);
     data_group_loops(book);
-    shared_trigger(book);
     channel_groups(book);
     channel_group_loops(book);
     group_order(book);
@@ -49,7 +48,8 @@ fn data_groups(book: &mut Book) {
     book.expect("1025th data group does not open", &cut.bytes, 7, field);
     cut.put16(dg[1023] + 22, 3);
     book.expect("mode of the 1024th before the 1025th", &cut.bytes, 8, dg[1023] + 22);
-    last_trigger(book, &cut, dg[1023]);
+    cut.put32(dg[1023] + 12, 9);
+    book.expect("trigger of the 1024th before its mode", &cut.bytes, 6, dg[1023] + 12);
     cut.put32(dg[1022] + 4, LONE);
     book.expect("1024th data group does not open", &cut.bytes, 5, dg[1022] + 4);
     let mut wanting = full;
@@ -59,41 +59,6 @@ fn data_groups(book: &mut Book) {
     wanting.put32(cg + 22, 1);
     let place = dg[1023] + 16;
     book.expect("records of the 1024th before the 1025th", &wanting.bytes, 11, place);
-}
-
-/// Faults of the trigger of the 1024th data group, whose mode is wrong and
-/// whose next link leads nowhere.
-fn last_trigger(book: &mut Book, sheet: &Sheet, dg: usize) {
-    let mut sheet = sheet.clone();
-    for (link, number) in [(LONE, 5), (9, 17)] {
-        sheet.put32(dg + 12, link);
-        let name = format!("trigger {link:#x} of the 1024th before its mode");
-        book.expect(name, &sheet.bytes, number, dg + 12);
-    }
-    let tr = sheet.trigger(dg + 12, &[], 23);
-    sheet.put16(tr + 8, 1);
-    sheet.put32(tr + 4, LONE);
-    book.expect("events of the 1024th before its mode", &sheet.bytes, 18, dg + 12);
-    sheet.put16(tr + 8, 0);
-    book.expect("trigger comment of the 1024th before its mode", &sheet.bytes, 5, tr + 4);
-    sheet.put32(tr + 4, 0);
-    book.expect("mode of the 1024th behind its trigger", &sheet.bytes, 8, dg + 22);
-}
-
-/// One trigger for as many data groups as there may be, and for one more.
-fn shared_trigger(book: &mut Book) {
-    let mut sheet = Sheet::new(300, 164);
-    let dg = chain(&mut sheet, 68, b"DG", 24, 1024);
-    let tr = sheet.trigger(dg[0] + 12, &[0x54; 48], 2);
-    sheet.linked(tr + 4, b"TX", 7);
-    for place in &dg {
-        sheet.put32(place + 12, tr as u32);
-        sheet.linked(place + 8, b"CG", 26);
-    }
-    let length = 64 + 164 + 1024 * (28 + 58 + 7 + 30);
-    book.of_length("1024 data groups share a trigger", &sheet.bytes, length);
-    sheet.put32(dg[1023] + 4, dg[0] as u32);
-    book.expect("looped data groups share a trigger", &sheet.bytes, 7, dg[1023] + 4);
 }
 
 /// Loops of one, two and three data groups, and one with a way in.

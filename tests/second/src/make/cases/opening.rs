@@ -9,18 +9,14 @@ type Field = (&'static str, usize, &'static [u8; 2]);
 pub fn cases(book: &mut Book) {
     let file = full(false);
     book.accept("full file without records", &file.sheet.bytes);
-    let (dg, cg, triggers) = (file.dg, file.cg, file.triggers);
+    let (dg, cg) = (file.dg, file.cg);
     let (first, last) = (file.channels[0].cn, file.channels[3].cn);
-    let fields: [Field; 23] = [
+    let fields: [Field; 19] = [
         ("file comment", 72, b"TX"),
         ("program", 76, b"PR"),
         ("first DG", 68, b"DG"),
         ("next DG", dg[0] + 4, b"DG"),
         ("next DG of the last", dg[1] + 4, b"DG"),
-        ("trigger", dg[0] + 12, b"TR"),
-        ("trigger of the last", dg[1] + 12, b"TR"),
-        ("trigger comment", triggers[0].tr + 4, b"TX"),
-        ("trigger comment of the last", triggers[1].tr + 4, b"TX"),
         ("first CG", dg[0] + 8, b"CG"),
         ("next CG", cg[0] + 4, b"CG"),
         ("first CG of the last", dg[1] + 8, b"CG"),
@@ -140,6 +136,7 @@ fn names(book: &mut Book, sheet: &Sheet, field: Field) {
         [a, b ^ 0x80],
         [a | 0x20, b | 0x20],
         [0, 0],
+        *b"TR",
         *b"SR",
         *b"CD",
         *b"MD",

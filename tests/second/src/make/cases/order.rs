@@ -5,7 +5,7 @@
 //! case. No fault reaches a test that comes before its own. Then each of
 //! them once more, in a file of version 329 with sample reduction links.
 
-use super::{full, Book, Full, Trigger, EVENT_COUNTS};
+use super::{full, Book, Full};
 
 const FAR: u32 = 0xFFFF_FFFF;
 
@@ -122,14 +122,14 @@ fn listed(file: &Full) -> Vec<Fault> {
     faults.bytes("HD end", 66, &[0xFF; 2], 19, 64);
     faults.link("file comment link", 72, FAR, 5);
     faults.link("program link", 76, FAR, 5);
-    data_group(&mut faults, file, 0, 68);
+    data_group(&mut faults, 68, file.dg[0]);
     group(&mut faults, file, 0, file.dg[0] + 8);
     channel(&mut faults, file, 0, file.cg[0] + 8);
     channel(&mut faults, file, 1, file.channels[0].cn + 4);
     group(&mut faults, file, 1, file.cg[0] + 4);
     channel(&mut faults, file, 2, file.cg[1] + 8);
     logged_records(&mut faults, file);
-    data_group(&mut faults, file, 1, file.dg[0] + 4);
+    data_group(&mut faults, file.dg[0] + 4, file.dg[1]);
     group(&mut faults, file, 2, file.dg[1] + 8);
     channel(&mut faults, file, 3, file.cg[2] + 8);
     let last = file.cg[2];
@@ -140,17 +140,9 @@ fn listed(file: &Full) -> Vec<Fault> {
     faults.list
 }
 
-fn data_group(faults: &mut Faults, file: &Full, number: usize, field: usize) {
-    let (dg, Trigger { tr, tx }) = (file.dg[number], file.triggers[number]);
+fn data_group(faults: &mut Faults, field: usize, dg: usize) {
     faults.block("DG", field, dg, 23);
-    faults.block("TR", dg + 12, tr, 9);
-    let events = EVENT_COUNTS[number] as u16;
-    let short = (10 + 24 * events - 1).to_le_bytes();
-    faults.bytes("TR short of its events", tr + 2, &short, 18, dg + 12);
-    let more = (events + 1).to_le_bytes();
-    faults.bytes("one event more", tr + 8, &more, 18, dg + 12);
-    faults.bytes("most events", tr + 8, &[0xFF; 2], 18, dg + 12);
-    faults.block("trigger comment", tr + 4, tx, 3);
+    faults.link("trigger", dg + 12, 1, 6);
     faults.word("mode", dg + 22, 3, 8);
 }
 
