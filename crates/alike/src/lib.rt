@@ -1,4 +1,6 @@
 // Parts of two lent slices compared. Each counter has a name of its own, so that a must-fail edit, which goes by one line, can name it.
+#![tactic(auto)]
+
 ghost use Rattle.std.specs.Prelude.{◌≡◌, ◌+◌, ◌-◌, ◌≤◌, length, take, drop, get_or};
 ghost use Rattle.answers.specs.Differences.{same_bytes, difference};
 ghost use Rattle.alike.specs.Padded.{padded};

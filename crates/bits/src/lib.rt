@@ -1,4 +1,6 @@
 // The bits of a signal, as a number of either byte order; the number as two's complement.
+#![tactic(auto)]
+
 ghost use Rattle.std.specs.Prelude.{◌≡◌, reverse, ◌+◌, ◌-◌, ◌*◌, ◌/◌, ◌%◌, ◌^◌, ◌≤◌, ◌<◌, leb, pos, negsuc, nat_abs, length, take, drop};
 ghost use Rattle.spec.specs.Bytes.{number};
 ghost use Rattle.spec.specs.Sample.{number_in, signed_of, twos};

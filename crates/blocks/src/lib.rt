@@ -1,4 +1,6 @@
 // Writes blocks over a lent slice, from a place on. A number is written by its low bytes.
+#![tactic(auto)]
+
 ghost use Rattle.std.specs.Prelude.{◌≡◌, ◌+◌, ◌-◌, ◌≤◌, length, take, drop};
 ghost use Rattle.spec.specs.Block.{hd_written};
 ghost use Rattle.write.specs.Write.{Wrote, padded};

@@ -1,4 +1,6 @@
 // The difference list of two images: its length first, then its bytes.
+#![tactic(auto)]
+
 ghost use Rattle.std.specs.Prelude.{◌≡◌, ◌≤◌};
 ghost use Rattle.answers.specs.Differences.{file_entries, differences};
 ghost use Rattle.answers.specs.Outcomes.{compare_outcome};
@@ -10,7 +12,7 @@ ghost use Rattle.compare.specs.Comparing.{outcome, ComparedAs, capped_length};
 use reading::{Access, File};
 
 // The length of the list that was written, or a refusal with its place.
-#[derive(Drop)]
+#[derive(Clone, Copy)]
 pub enum Compared {
     Written(usize),
     Refused(u32, usize),

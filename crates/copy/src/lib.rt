@@ -1,4 +1,6 @@
 // The canonical copy of an image: its length first, then its bytes.
+#![tactic(auto)]
+
 ghost use Rattle.std.specs.Prelude.{◌≡◌, ◌+◌, ◌≤◌, ◌<◌, length};
 ghost use Rattle.write.specs.Write.{Wrote};
 ghost use Rattle.answers.specs.Readings.{version, hd_written};
@@ -21,7 +23,7 @@ fn header_size(image: &[u8], f: File) -> usize
     blocks::hd_size(f.version(image))
 }
 
-#[derive(Drop)]
+#[derive(Clone, Copy)]
 struct Front {
     size: usize,
     comment: Body,
@@ -104,7 +106,7 @@ fn put_file(out: &mut [u8], image: &[u8], f: File, count: usize)
 }
 
 // A copy of this length, or a refusal with number and place.
-#[derive(Drop)]
+#[derive(Clone, Copy)]
 pub enum Copied {
     Done(usize),
     Refused(u32, usize),

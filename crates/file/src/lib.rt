@@ -1,4 +1,6 @@
 // The data groups of a file, and the check of a whole image: refusals 1 to 11 and 17 to 19.
+#![tactic(auto)]
+
 ghost use Rattle.std.specs.Prelude.{◌≡◌, ◌+◌, ◌≤◌, ◌<◌, length, take};
 ghost use Rattle.spec.specs.Answer.{passed};
 ghost use Rattle.spec.specs.Block.{image_of};
@@ -59,7 +61,7 @@ fn data_group(image: &[u8], dg: Span, c: Cursor) -> Walked
 }
 
 // The verdict on an image: passed, or rejected with the number and the place of a refusal.
-#[derive(Drop)]
+#[derive(Clone, Copy)]
 pub enum Verdict {
     Passed,
     Rejected(u32, usize),

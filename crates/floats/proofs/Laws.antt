@@ -8,14 +8,14 @@ use Rattle.spec.specs.Sample.{finite}
 
 -- ---- from bits
 
-is_nan : (x : Float) → is_nan x ≡ true → x ≡ nan
+is_nan_lem : (x : Float) → is_nan x ≡ true → x ≡ nan
 unfolding is_nan
-is_nan nan e = refl
-is_nan (inf s) e = cc
-is_nan (fin s m d) e = cc
+is_nan_lem nan e = refl
+is_nan_lem (inf s) e = cc
+is_nan_lem (fin s m d) e = cc
 
 pub nan_above : (f : Format) (n : ℕ) → ones f * hid f < n % top f → of_bits f n ≡ nan
-nan_above f n h = is_nan _ (sym (nan_bits_is f n) ∙ nan_bits_above f n ∙ lt-ltb _ _ h)
+nan_above f n h = is_nan_lem _ (sym (nan_bits_is f n) ∙ nan_bits_above f n ∙ lt-ltb _ _ h)
 
 pub no_nan : (f : Format) (n : ℕ) → n % top f ≤ ones f * hid f → T (not (nan_bits f n))
 no_nan f n h = subst (λ (b : Bool). T (not b)) (sym (nan_bits_above f n ∙ le-ltb _ _ h)) tt

@@ -1,4 +1,6 @@
 // Numbers, blocks and their fields. A block may be looked for at any place; a byte beyond the image's end reads as 0.
+#![tactic(auto)]
+
 ghost use Rattle.std.specs.Prelude.{◌≡◌, ◌+◌, ◌^◌, ◌≤◌, ◌<◌, length, take, get_or};
 ghost use Rattle.spec.specs.Bytes.{same_bytes, u16, u32, u64, to_link};
 ghost use Rattle.spec.specs.Block.{image_of, opening, body_at, hd_kind, dg_kind, cg_kind, cn_kind, cc_kind, tx_kind, pr_kind, ce_kind};
@@ -55,14 +57,14 @@ pub fn version(image: &[u8]) -> usize
 // ---- blocks
 
 // Where an opened block stands, and its size.
-#[derive(Drop)]
+#[derive(Clone, Copy)]
 pub struct Span {
     pub at: usize,
     pub size: usize,
 }
 
 // Open, or shut with the number of the refusal.
-#[derive(Drop)]
+#[derive(Clone, Copy)]
 pub enum Block {
     Open(Span),
     Shut(u32),
@@ -154,7 +156,7 @@ pub fn u64_in(image: &[u8], b: Span, offset: usize) -> u64
 // ---- steps of a check
 
 // Passed, or refused with a number and a place.
-#[derive(Drop)]
+#[derive(Clone, Copy)]
 pub enum Step {
     Go,
     Stop(u32, usize),
@@ -163,7 +165,7 @@ pub enum Step {
 // ---- the kinds of block: identifier as a number of two bytes, least and written size. Those without a written size are written at their own.
 
 // The identification, at 0. No link leads to it, it holds no size, and its identifiers have 8 bytes.
-#[derive(Drop)]
+#[derive(Clone, Copy)]
 pub struct Id;
 
 impl Id {
@@ -211,7 +213,7 @@ impl Id {
 }
 
 // The header, at 64.
-#[derive(Drop)]
+#[derive(Clone, Copy)]
 pub struct Hd;
 
 impl Hd {
@@ -231,7 +233,7 @@ impl Hd {
 }
 
 // A data group.
-#[derive(Drop)]
+#[derive(Clone, Copy)]
 pub struct Dg;
 
 impl Dg {
@@ -249,7 +251,7 @@ impl Dg {
 }
 
 // A channel group.
-#[derive(Drop)]
+#[derive(Clone, Copy)]
 pub struct Cg;
 
 impl Cg {
@@ -267,7 +269,7 @@ impl Cg {
 }
 
 // A channel.
-#[derive(Drop)]
+#[derive(Clone, Copy)]
 pub struct Cn;
 
 impl Cn {
@@ -285,7 +287,7 @@ impl Cn {
 }
 
 // A conversion.
-#[derive(Drop)]
+#[derive(Clone, Copy)]
 pub struct Cc;
 
 impl Cc {
@@ -301,7 +303,7 @@ impl Cc {
 }
 
 // A channel extension.
-#[derive(Drop)]
+#[derive(Clone, Copy)]
 pub struct Ce;
 
 impl Ce {
@@ -331,7 +333,7 @@ impl Ce {
 }
 
 // A text.
-#[derive(Drop)]
+#[derive(Clone, Copy)]
 pub struct Tx;
 
 impl Tx {
@@ -361,7 +363,7 @@ impl Tx {
 }
 
 // Program data.
-#[derive(Drop)]
+#[derive(Clone, Copy)]
 pub struct Pr;
 
 impl Pr {

@@ -1,4 +1,6 @@
 // The one line of the small program: two decimal numbers.
+#![tactic(auto)]
+
 ghost use Rattle.std.specs.Prelude.{◌≡◌, ◌+◌, ◌≤◌, length};
 ghost use Rattle.spec.specs.Call.{line};
 ghost use Rattle.write.specs.Write.{Wrote};

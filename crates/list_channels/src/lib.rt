@@ -1,4 +1,6 @@
 // The entries of the channels of two groups: those that differ, and those that one file alone has.
+#![tactic(auto)]
+
 ghost use Rattle.std.specs.Prelude.{◌≡◌, ◌+◌, ◌≤◌};
 ghost use Rattle.answers.specs.Differences.{alone, channel_entries};
 ghost use Rattle.reading.specs.Steps.{AtChannels, channels_left};

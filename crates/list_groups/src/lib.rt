@@ -1,4 +1,6 @@
 // The entries of the groups of two files: what differs in groups that both have, and the groups that one file alone has.
+#![tactic(auto)]
+
 ghost use Rattle.std.specs.Prelude.{◌≡◌, true, false, [], ◌≤◌};
 ghost use Rattle.answers.specs.Differences.{group_entries, groups_alone, groups_entries};
 ghost use Rattle.reading.specs.Steps.{AtGroup, AtGroups, AtKeys, the_group, groups_left};

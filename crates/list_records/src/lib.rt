@@ -1,4 +1,6 @@
 // The entries of the records of two groups: those that differ, and those that one file alone has.
+#![tactic(auto)]
+
 ghost use Rattle.std.specs.Prelude.{◌-◌, ◌≤◌, length, take, drop};
 ghost use Rattle.answers.specs.Differences.{same_bytes, difference, entry, unless, record_entries};
 ghost use Rattle.reading.specs.Steps.{AtGroup, the_group, AtSeries, series_number, series_left};

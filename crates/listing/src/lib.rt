@@ -1,4 +1,6 @@
 // Entries of a difference list, one behind the other: written where the output has room for them, and their length in any case. So the length of a list is that of listing it with no room.
+#![tactic(auto)]
+
 ghost use Rattle.std.specs.Prelude.{◌≡◌, [], ◌∷◌, ◌+◌, ◌≤◌, ◌<◌};
 ghost use Rattle.answers.specs.Differences.{entry, unless};
 ghost use Rattle.listing.specs.Listing.{capped, entry_parts, Listed, numbered};

@@ -1,5 +1,7 @@
 // The calls for C programs: include/mdf3.h declares them. Number and place of a refusal, and the length of what is written,
 // are called otherwise in each, so that a must-fail edit, which goes by one line, can name them.
+#![tactic(auto)]
+
 ghost use Rattle.std.specs.Prelude.{◌≡◌};
 ghost use Rattle.answers.specs.Readings.{bytes_of};
 ghost use Rattle.answers.specs.Outcomes.{copy_outcome, compare_outcome};

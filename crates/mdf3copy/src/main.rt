@@ -1,4 +1,6 @@
 // The small program: copies the image on standard input to standard output, or writes the refusal's number and place.
+#![tactic(auto)]
+
 ghost use Rattle.std.specs.Prelude.{◌≡◌, ◌++◌, ◌≤◌, length, drop};
 ghost use Rattle.answers.specs.Outcomes.{program_outcome, program_output};
 ghost use Rattle.copy.specs.Copying.{outcome};

@@ -1,5 +1,7 @@
 // For tests: writes the samples of the image on standard input, as values and as parts. Of the first groups and channels the first
 // records; a line for each sample, and one for its part.
+#![tactic(auto)]
+
 use sample::{SampleAnswer, SampleValue};
 
 fn wide(number: u32) -> u64 {

@@ -1,4 +1,6 @@
 // The physical value of a sample, for the conversions that are known: none, one to one, linear. 16 where there is none.
+#![tactic(auto)]
+
 ghost use Rattle.std.specs.Prelude.{◌≡◌, ◌+◌, ◌^◌, ◌≤◌, ◌<◌, length, take, drop};
 ghost use Rattle.std.specs.Float.{binary64};
 ghost use Rattle.std.specs.Float.Ieee.{of_bits};
@@ -11,7 +13,7 @@ use reading::{Body, Channel, Sought};
 use stored::{Stored, StoredAnswer};
 
 // A number, or a refusal with number and place.
-#[derive(Drop)]
+#[derive(Clone, Copy)]
 pub enum PhysicalAnswer {
     Value(f64),
     Refused(u32, usize),

@@ -1,4 +1,6 @@
 // The channels of a group: the length of their blocks, and the blocks written.
+#![tactic(auto)]
+
 ghost use Rattle.std.specs.Prelude.{◌≡◌, ◌+◌, ◌/◌, ◌%◌, ◌≤◌, ◌<◌, length};
 ghost use Rattle.write.specs.Write.{Wrote};
 ghost use Rattle.answers.specs.Copies.{link_to_first, channel_length, channels_length, channels_bytes};
@@ -43,7 +45,7 @@ pub fn put_body(out: &mut [u8], at: usize, image: &[u8], body: Body, id: u64)
 }
 
 // A length and a number of parts, added up as far as the longest copy needs.
-#[derive(Drop)]
+#[derive(Clone, Copy)]
 pub struct Sum {
     pub length: usize,
     pub count: usize,
@@ -51,7 +53,7 @@ pub struct Sum {
 
 // ---- a channel
 
-#[derive(Drop)]
+#[derive(Clone, Copy)]
 struct Bodies {
     conversion: Body,
     extension: Body,
@@ -73,7 +75,7 @@ fn bodies_of(image: &[u8], x: Channel) -> Bodies
     }
 }
 
-#[derive(Drop)]
+#[derive(Clone, Copy)]
 struct Places {
     cc: usize,
     ce: usize,

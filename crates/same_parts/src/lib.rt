@@ -1,4 +1,6 @@
 // Parts of the readings of two accepted images compared.
+#![tactic(auto)]
+
 ghost use Rattle.std.specs.Prelude.{◌≡◌};
 ghost use Rattle.answers.specs.Differences.{same_bytes, same_body, same_channel, same_own, same_header};
 ghost use Rattle.reading.specs.Promise.{image_reading};

@@ -1,4 +1,6 @@
 // Whether two groups have the same records, told without going through them one by one: of sorted groups by their runs of bytes; of unsorted ones by one pass over both data groups, as long as their records come in the same order.
+#![tactic(auto)]
+
 ghost use Rattle.std.specs.Prelude.{◌≡◌, true, ◌-◌, ◌≤◌, ◌<◌, length, take, drop};
 ghost use Rattle.reading.specs.Promise.{log_at};
 ghost use Rattle.reading.specs.Steps.{AtGroup, AtLog, log_left, the_group, unsorted};

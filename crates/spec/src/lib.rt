@@ -1,1 +1,2 @@
 // The rules are definitions and theorems, in specs/ and proofs/. This crate has no code.
+#![tactic(auto)]

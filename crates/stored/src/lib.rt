@@ -1,4 +1,6 @@
 // Samples as they are stored: their kind and their bits, or the part of the image that they are. 15 where they can't be read.
+#![tactic(auto)]
+
 ghost use Rattle.std.specs.Prelude.{◌≡◌, false, ◌&&◌, eqb, ◌+◌};
 ghost use Rattle.answers.specs.Samples.{Logged, unsigned_integer, signed_integer, single_float, double_float, byte_run, type_of, stored_sample};
 ghost use Rattle.reading.specs.Steps.{the_channel, channel_place};
@@ -7,7 +9,7 @@ ghost use Rattle.stored.specs.Stored.{BitsInside, typed, ReadAs, answer_of, Fits
 use reading::{Channel, Signal, Sought};
 
 // Its kind and its bits, or the part of the image that it is.
-#[derive(Drop)]
+#[derive(Clone, Copy)]
 pub enum Stored {
     Unsigned(u64),
     // How many bits, and these.
@@ -19,7 +21,7 @@ pub enum Stored {
 }
 
 // A stored sample, or a refusal with number and place.
-#[derive(Drop)]
+#[derive(Clone, Copy)]
 pub enum StoredAnswer {
     Found(Stored),
     Refused(u32, usize),

@@ -1,4 +1,6 @@
 // Channels and channel groups, against the definitions of `spec`: refusals 5 to 10 and 17 to 19.
+#![tactic(auto)]
+
 ghost use Rattle.std.specs.Prelude.{◌≡◌, ◌+◌, ◌≤◌, ◌<◌, not, ◌||◌, [], eqb, length, take, set};
 ghost use Rattle.spec.specs.Bytes.{u16, u32, to_link};
 ghost use Rattle.spec.specs.Block.{image_of, read_cg, read_cn, read_fields, bits_fit};
@@ -113,7 +115,7 @@ fn channel(image: &[u8], cn: Span, size: usize) -> Step
 // ---- the cursor
 
 // Where the walk stands: a link field and the link in it, and how many data groups, channel groups and channels it has met.
-#[derive(Drop)]
+#[derive(Clone, Copy)]
 pub struct Cursor {
     pub field: usize,
     pub link: usize,
@@ -123,7 +125,7 @@ pub struct Cursor {
 }
 
 // A list walked to its end, or a refusal with number and place.
-#[derive(Drop)]
+#[derive(Clone, Copy)]
 pub enum Walked {
     Done(Cursor),
     Refused(u32, usize),

@@ -1,4 +1,6 @@
 // Writes bytes over a lent slice, from a place on.
+#![tactic(auto)]
+
 ghost use Rattle.std.specs.Prelude.{◌+◌, ◌-◌, ◌≤◌, length, take, drop, replicate};
 ghost use Rattle.write.specs.Write.{Wrote, padded};
 

@@ -1,0 +1,55 @@
+use Rattle.file.proofs.DataGroups.{data_groups_end, data_groups_full, data_groups_shut, data_groups_stop, data_groups_go}
+use Rattle.image.proofs.Blocks.{stands, fault_shut}
+use Rattle.spec.specs.Block.{dg_kind}
+use native.Mathlib.Omega.{arith}
+use mathlib.Core.Path.{refl, sym, ◌∙◌}
+use Prim.Native.Nat.{◌<◌}
+use Rattle.file.proofs.data_groups.Goals as goal
+
+pub loop-c-init : goal.loop-c-init
+loop-c-init c = (c.requires.0, c.requires.1, c.requires.2, refl)
+
+pub returns-then-c-eq1024 : goal.returns-then-c-eq1024
+returns-then-c-eq1024 c =
+    let l = c.loop-c in
+    sym (l.invariant.3 ∙ data_groups_full _ _ _ _ _ _ c.loop-c-test.true c.if-c-eq1024.true)
+
+pub returns-in_default : goal.returns-in_default
+returns-in_default c =
+    let l = c.loop-c in
+    let below : l.c.dgs < 1024 = omega (arith, l.invariant.0, c.if-c-eq1024.false) in
+    sym (l.invariant.3 ∙ data_groups_shut _ _ _ _ _ _ c.loop-c-test.true below (fault_shut c.open-opened.ensures c.in_default.is c.fault.ensures))
+
+pub data_group-w-requires : goal.data_group-w-requires
+data_group-w-requires c =
+    let l = c.loop-c in
+    let s = stands dg_kind _ _ _ (sym c.in-Open.is ∙ c.open-opened.ensures) in
+    (record { inside = s.inside; least = s.least }, omega (arith, l.invariant.0, c.if-c-eq1024.false), l.invariant.1, l.invariant.2)
+
+pub returns-in-Refused : goal.returns-in-Refused
+returns-in-Refused c =
+    let l = c.loop-c in
+    let s = stands dg_kind _ _ _ (sym c.in-Open.is ∙ c.open-opened.ensures) in
+    let below : l.c.dgs < 1024 = omega (arith, l.invariant.0, c.if-c-eq1024.false) in
+    let met = rw c.in-Refused.is at c.data_group-w.ensures.0 in
+    sym (l.invariant.3 ∙ data_groups_stop _ _ _ _ _ _ c.loop-c-test.true below _ s met)
+
+pub loop-c-smaller : goal.loop-c-smaller
+loop-c-smaller c =
+    let past = rw c.in-Done.is at c.data_group-w.ensures.1 in
+    omega (arith, past.2, c.loop-c.invariant.0, c.if-c-eq1024.false)
+
+pub loop-c-preserved : goal.loop-c-preserved
+loop-c-preserved c =
+    let l = c.loop-c in
+    let s = stands dg_kind _ _ _ (sym c.in-Open.is ∙ c.open-opened.ensures) in
+    let below : l.c.dgs < 1024 = omega (arith, l.invariant.0, c.if-c-eq1024.false) in
+    let past = rw c.in-Done.is at c.data_group-w.ensures.1 in
+    let met = rw c.in-Done.is at c.data_group-w.ensures.0 in
+    let go = data_groups_go _ _ _ _ _ _ c.loop-c-test.true below _ s met in
+    (omega (arith, past.2, below), past.3, past.4, rw (past.0, past.1, past.2) (l.invariant.3 ∙ go))
+
+pub returns : goal.returns
+returns c =
+    let l = c.loop-c in
+    sym (l.invariant.3 ∙ data_groups_end _ _ _ _ _ _ c.loop-c-test.false)

@@ -1,0 +1,14 @@
+use Rattle.image.proofs.Ident.{name_differs, name_next, name_same}
+use Rattle.spec.specs.Bytes.{same_bytes}
+use lib.ListN.{take, drop}
+use native.Mathlib.Omega.{arith}
+use mathlib.Core.Path.{◌≡◌, refl}
+use Prim.Native.Nat.{◌-◌, ◌≤◌}
+use borrow.Author.Rules.{rules}
+use Rattle.image.proofs.Id.named.Given as goal
+
+abbrev pub invariant-loop-i : goal.invariant-loop-i
+invariant-loop-i l = (l.i ≤ 8) × (same_bytes (take 8 l.image) l.name ≡ same_bytes (drop l.i (take 8 l.image)) (drop l.i l.name))
+
+abbrev pub decreases-loop-i : goal.decreases-loop-i
+decreases-loop-i l = 8 - l.i

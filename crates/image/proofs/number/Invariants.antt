@@ -1,0 +1,13 @@
+use Rattle.image.proofs.Numbers.{number_turn, width_turn, width_small, number_past, number_none, width_pos}
+use Rattle.image.specs.Spans.{number_at}
+use native.Mathlib.Omega.{arith}
+use mathlib.Core.Path.{◌≡◌, sym, ◌∙◌}
+use Prim.Native.Nat.{◌+◌, ◌-◌, ◌^◌, ◌≤◌, ◌<◌}
+use borrow.Author.Rules.{rules}
+use Rattle.image.proofs.number.Given as goal
+
+abbrev pub invariant-loop-k : goal.invariant-loop-k
+invariant-loop-k l = (l.k ≤ l.n) × (l.v ≡ number_at l.image (l.at + l.k) (l.n - l.k)) × (l.v < 256 ^ (l.n - l.k))
+
+abbrev pub decreases-loop-k : goal.decreases-loop-k
+decreases-loop-k l = l.k
