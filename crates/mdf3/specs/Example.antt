@@ -5,7 +5,7 @@ use Rattle.std.specs.Prelude.{ℕ, ◌≡◌, false, List, [], ◌∷◌, ◌++�
 use Rattle.std.proofs.Math.Option.{none, some}
 use Rattle.std.specs.Float.{fin}
 use Rattle.answers.specs.Readings.{join}
-use Rattle.answers.specs.Outcomes.{Outcome, check_outcome, compare_outcome}
+use Rattle.answers.specs.Outcomes.{check_outcome, compare_outcome}
 use Rattle.answers.specs.Samples.{unsigned, signed, single, double, part}
 use Rattle.mdf3.specs.Answers.{answer_bytes, check_answer, length_answer, compare_number, compare_answer, stored_bytes, answered, physical_bytes}
 

@@ -1,6 +1,6 @@
 -- A channel as it is written: its block, then its bodies.
 -- Assumes nothing.
-use Rattle.std.specs.Prelude.{ℕ, ◌+◌, ◌≤◌, ◌<◌, ◌≡◌, List, ◌++◌, length}
+use Rattle.std.specs.Prelude.{ℕ, ◌+◌, ◌≤◌, ◌<◌, ◌≡◌, List, ◌++◌}
 use Rattle.answers.specs.Readings.{target, cc_kind, ce_kind, tx_kind}
 use Rattle.answers.specs.Readings.{Channel as ReadChannel}
 use Rattle.answers.specs.Copies.{link_to, body_length, body_bytes}

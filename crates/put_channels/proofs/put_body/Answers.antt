@@ -1,0 +1,16 @@
+use Rattle.write.specs.Write.{wrote_none}
+use Rattle.blocks.specs.Blocks.{block_bytes}
+use native.Mathlib.Omega.{arith}
+use Rattle.put_channels.proofs.put_body.Goals as goal
+
+pub returns-in_default : goal.returns-in_default
+returns-in_default c = rw c.in_default.is wrote_none
+
+pub put_block-requires : goal.put_block-requires
+put_block-requires c =
+    let p = rw c.in-Present.is at c.requires in
+    (omega (arith, p), omega (arith, p))
+
+pub returns : goal.returns
+unfolding block_bytes
+returns c = rw c.in-Present.is c.put_block.ensures
