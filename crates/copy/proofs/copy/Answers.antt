@@ -46,5 +46,5 @@ returns c =
     let n = capped_exact c.needed-sum.ensures.length (omega (arith, c.if-sum-gt2147483647.false)) in
     let room : c.needed-sum.result.length ≤ length a.out.now = omega (arith, c.if-out-sum.false) in
     let o = copy_made a.image.now a.out.now _ e.1.1 _ n (omega (arith, c.if-sum-gt2147483647.false)) room in
-    let ok = accepted_well_formed a.image.now (known_bytes a.image.now (λ i. omega (arith, c.shared_slice_known-1.given i))) _ e.1.1 in
+    let ok = accepted_well_formed a.image.now (known_bytes a.image.now (λ i. omega (arith, c.type_inv.image i))) _ e.1.1 in
     (sym (ap (λ (x : CopyOutcome). x.given) o), copy_left _ _ n ok room c.put_file.ensures ∙ sym (ap (λ (x : CopyOutcome). x.memory) o))

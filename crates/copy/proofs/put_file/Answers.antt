@@ -44,6 +44,6 @@ returns c =
     let a = c.args in
     let s = c.front_of-front.ensures in
     let b = length_by (image_reading a.image.now) _ s.first in
-    let ok = accepted_well_formed a.image.now (known_bytes a.image.now (λ i. omega (arith, c.shared_slice_known-1.given i))) _ (file_accepted _ _ c.requires.0) in
+    let ok = accepted_well_formed a.image.now (known_bytes a.image.now (λ i. omega (arith, c.type_inv.image i))) _ (file_accepted _ _ c.requires.0) in
     let w = rw c.groups.ensures.1 at c.put_groups.ensures in
     file_written a.image.now c.front_of-front.result s ok c.put_id_hd.ensures c.put_body.ensures c.put_body-2.ensures w

@@ -15,5 +15,5 @@ put_bodies-requires c =
 
 pub returns : goal.returns
 returns c =
-    let ok = channel_well_formed _ _ _ _ c.requires.0 (known_bytes c.args.image.now (λ i. omega (arith, c.shared_slice_known-1.given i))) in
+    let ok = channel_well_formed _ _ _ _ c.requires.0 (known_bytes c.args.image.now (λ i. omega (arith, c.type_inv.image i))) in
     channel_written _ _ _ _ _ _ c.requires.1 ok c.put_channel_block.ensures c.put_bodies.ensures

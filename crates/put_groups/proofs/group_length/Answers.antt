@@ -22,13 +22,13 @@ overflow_add-n-3 c = omega (arith, product_small _ _ c.count.ensures.1 c.size.en
 pub returns-then-n-gt2147483647 : goal.returns-then-n-gt2147483647
 returns-then-n-gt2147483647 c =
     let group : ReadGroup = the_group c.args.image.now c.args.g in
-    let formed : WellFormedGroup group = group_well_formed _ _ _ _ c.requires.0 (known_bytes c.args.image.now (λ i. omega (arith, c.shared_slice_known-1.given i))) in
+    let formed : WellFormedGroup group = group_well_formed _ _ _ _ c.requires.0 (known_bytes c.args.image.now (λ i. omega (arith, c.type_inv.image i))) in
     let commented : c.body_length-comment.result ≡ body_length group.comment = c.body_length-comment.ensures.0 ∙ written_length_lem c.args.image.now c.comment.result c.comment.ensures in
     (group_over group formed _ _ _ _ commented c.requires.1.length c.count.ensures.0 c.size.ensures.0 c.if-n-gt2147483647.true, omega arith, omega arith)
 
 pub returns : goal.returns
 returns c =
     let group : ReadGroup = the_group c.args.image.now c.args.g in
-    let formed : WellFormedGroup group = group_well_formed _ _ _ _ c.requires.0 (known_bytes c.args.image.now (λ i. omega (arith, c.shared_slice_known-1.given i))) in
+    let formed : WellFormedGroup group = group_well_formed _ _ _ _ c.requires.0 (known_bytes c.args.image.now (λ i. omega (arith, c.type_inv.image i))) in
     let commented : c.body_length-comment.result ≡ body_length group.comment = c.body_length-comment.ensures.0 ∙ written_length_lem c.args.image.now c.comment.result c.comment.ensures in
     (group_exact group formed _ _ _ _ commented c.requires.1.length c.count.ensures.0 c.size.ensures.0 (omega (arith, c.if-n-gt2147483647.false)), omega arith, omega (arith, c.if-n-gt2147483647.false))

@@ -38,7 +38,7 @@ overflow_add-result c =
 pub returns : goal.returns
 returns c =
     let a = c.args in
-    let ok = group_well_formed _ _ _ _ c.requires.0 (known_bytes a.image.now (λ i. omega (arith, c.shared_slice_known-1.given i))) in
+    let ok = group_well_formed _ _ _ _ c.requires.0 (known_bytes a.image.now (λ i. omega (arith, c.type_inv.image i))) in
     let l = ap (λ n. a.at + 58 + n) (c.body_length.ensures.0 ∙ written_length_lem a.image.now c.comment-comment.result c.comment-comment.ensures) in
     let k = known_of a.image.now a.g c.comment-comment.result a.sum c.requires.0 c.comment-comment.ensures c.requires.1 c.requires.2 in
     let w = rw c.channels.ensures.2 at c.put_channels.ensures in

@@ -57,7 +57,7 @@ slice_bounds-put_records-end c =
 pub put_records-requires : goal.put_records-requires
 put_records-requires c =
     let went : GroupStepIs c.args.image.now c.loop-g.c (Next c.in-Next.g c.in-Next.n) = rw c.in-Next.is at c.next.ensures in
-    let formed : WellFormedGroup (the_group c.args.image.now c.in-Next.g) = group_well_formed _ _ _ _ went.0 (known_bytes c.args.image.now (λ i. omega (arith, c.shared_slice_known-1.given i))) in
+    let formed : WellFormedGroup (the_group c.args.image.now c.in-Next.g) = group_well_formed _ _ _ _ went.0 (known_bytes c.args.image.now (λ i. omega (arith, c.type_inv.image i))) in
     let end : ℕ = c.loop-g.to + c.group_length.result in
     let exact : c.group_length.result ≡ group_length (the_group c.args.image.now c.in-Next.g) = c.group_length.ensures.0.exact (omega (arith, ap groups_length went.3, c.loop-g.invariant.4)) in
     let ending : end ≡ c.loop-g.to + group_length (the_group c.args.image.now c.in-Next.g) = ap (λ k. c.loop-g.to + k) exact in
@@ -78,7 +78,7 @@ loop-g-preserved c =
     let end : ℕ = c.loop-g.to + c.group_length.result in
     let exact : c.group_length.result ≡ group_length (the_group c.args.image.now c.in-Next.g) = c.group_length.ensures.0.exact (omega (arith, ap groups_length went.3, c.loop-g.invariant.4)) in
     let ending : end ≡ c.loop-g.to + group_length (the_group c.args.image.now c.in-Next.g) = ap (λ k. c.loop-g.to + k) exact in
-    let formed : WellFormedGroup (the_group c.args.image.now c.in-Next.g) = group_well_formed _ _ _ _ went.0 (known_bytes c.args.image.now (λ i. omega (arith, c.shared_slice_known-1.given i))) in
+    let formed : WellFormedGroup (the_group c.args.image.now c.in-Next.g) = group_well_formed _ _ _ _ went.0 (known_bytes c.args.image.now (λ i. omega (arith, c.type_inv.image i))) in
     let l = c.loop-g in
     let b = rw c.groups_link-next.ensures at c.put_blocks-records.ensures.0 in
     let q = rw c.groups_link-next.ensures at c.put_blocks-records.ensures.1 in (

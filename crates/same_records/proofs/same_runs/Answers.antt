@@ -38,8 +38,8 @@ returns c =
     let y : DataIs a.b.now a.h (Run c.in-Run-data.to c.in-Run-data.m) = rw c.in-Run-data.is at c.data-2.ensures in
     (x, y) in
     let a = c.args in
-    let v = group_well_formed _ _ _ _ c.requires.0 (known_bytes a.a.now (λ i. omega (arith, c.shared_slice_known-1.given i))) in
-    let u = group_well_formed _ _ _ _ c.requires.1 (known_bytes a.b.now (λ i. omega (arith, c.shared_slice_known-2-1.given i))) in
+    let v = group_well_formed _ _ _ _ c.requires.0 (known_bytes a.a.now (λ i. omega (arith, c.type_inv.a i))) in
+    let u = group_well_formed _ _ _ _ c.requires.1 (known_bytes a.b.now (λ i. omega (arith, c.type_inv.b i))) in
     let s = sym c.size.ensures.0 ∙ c.if-size.false ∙ c.size-2.ensures.0 in
     let k = sym c.count.ensures.0 ∙ c.if-count.false ∙ c.count-2.ensures.0 in
     λ e. runs_same (the_group a.a.now a.g) (the_group a.b.now a.h) v u s k (runs.0.1 ∙ c.same_run.ensures e ∙ ap (λ n. take n (drop c.in-Run-data.to a.b.now)) c.if-n-m.false ∙ sym runs.1.1)
