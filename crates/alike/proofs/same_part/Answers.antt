@@ -19,8 +19,7 @@ loop-k-preserved c =
     let xs = part c.args.a.now c.args.at c.args.n in
     let ys = part c.args.b.now c.args.to c.args.m in
     let g = part_next c.args.a.now c.args.at c.args.n c.requires.0 l.k (omega arith) in
-    let h = part_next c.args.b.now c.args.to c.args.m c.requires.1 l.k (omega (arith, l.invariant.0)) in
-    (
+    let h = part_next c.args.b.now c.args.to c.args.m c.requires.1 l.k (omega (arith, l.invariant.0)) in (
       l.invariant.0,
       elim c.if-a-at.branch [ then-a-at w ↦ rw w.differing-is (seen_other xs ys l.differing l.k l.invariant.1 g h w.if-a-at.true) | else-a-at w ↦ rw w.differing-is (seen_same xs ys l.differing l.k l.invariant.1 g h w.if-a-at.false refl refl) ],
     )

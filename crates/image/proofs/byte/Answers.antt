@@ -1,7 +1,6 @@
 use lib.ListN.{get_or-eq_default}
 use native.Mathlib.Omega.{arith}
 use mathlib.Core.Path.{sym}
-use borrow.Author.Rules.{rules}
 use Rattle.image.proofs.byte.Goals as goal
 
 pub returns-else-at-image : goal.returns-else-at-image

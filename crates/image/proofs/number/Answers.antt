@@ -1,9 +1,7 @@
 use Rattle.image.proofs.Numbers.{number_turn, width_turn, width_small, number_past, number_none, width_pos}
-use Rattle.image.specs.Spans.{number_at}
 use native.Mathlib.Omega.{arith}
 use mathlib.Core.Path.{◌≡◌, sym, ◌∙◌}
-use Prim.Native.Nat.{◌+◌, ◌-◌, ◌^◌, ◌≤◌, ◌<◌}
-use borrow.Author.Rules.{rules}
+use Prim.Native.Nat.{◌+◌, ◌-◌}
 use Rattle.image.proofs.number.Goals as goal
 
 pub returns-then-image-at : goal.returns-then-image-at

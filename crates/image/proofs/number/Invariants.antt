@@ -1,9 +1,6 @@
-use Rattle.image.proofs.Numbers.{number_turn, width_turn, width_small, number_past, number_none, width_pos}
 use Rattle.image.specs.Spans.{number_at}
-use native.Mathlib.Omega.{arith}
-use mathlib.Core.Path.{◌≡◌, sym, ◌∙◌}
+use mathlib.Core.Path.{◌≡◌}
 use Prim.Native.Nat.{◌+◌, ◌-◌, ◌^◌, ◌≤◌, ◌<◌}
-use borrow.Author.Rules.{rules}
 use Rattle.image.proofs.number.Given as goal
 
 abbrev pub invariant-loop-k : goal.invariant-loop-k

@@ -2,7 +2,6 @@ use Rattle.image.proofs.Fields.{field_held, field_cut}
 use Rattle.image.proofs.Numbers.{width_pos}
 use native.Mathlib.Omega.{arith}
 use mathlib.Core.Path.{◌∙◌}
-use borrow.Author.Rules.{rules}
 use Rattle.image.proofs.number_in.Goals as goal
 
 pub returns-then-b-offset : goal.returns-then-b-offset

@@ -1,7 +1,6 @@
 use Rattle.image.proofs.Opening.{no_head, wrong_first, wrong_second, too_small, too_long, opens}
 use native.Mathlib.Omega.{arith}
 use mathlib.Core.Path.{sym, ◌∙◌}
-use borrow.Author.Rules.{rules}
 use Rattle.image.proofs.open_block.Goals as goal
 
 pub returns-then-image-lt4 : goal.returns-then-image-lt4

@@ -1,7 +1,6 @@
 use Rattle.image.proofs.Ident.{version_short, version_long}
 use native.Mathlib.Omega.{arith}
 use mathlib.Core.Path.{◌∙◌}
-use borrow.Author.Rules.{rules}
 use Rattle.image.proofs.version.Goals as goal
 
 pub returns-then-image-lt30 : goal.returns-then-image-lt30

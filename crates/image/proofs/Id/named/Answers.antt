@@ -1,9 +1,6 @@
 use Rattle.image.proofs.Ident.{name_differs, name_next, name_same}
-use Rattle.spec.specs.Bytes.{same_bytes}
-use lib.ListN.{take, drop}
 use native.Mathlib.Omega.{arith}
-use mathlib.Core.Path.{◌≡◌, refl}
-use Prim.Native.Nat.{◌-◌, ◌≤◌}
+use mathlib.Core.Path.{refl}
 use borrow.Author.Rules.{rules}
 use Rattle.image.proofs.Id.named.Goals as goal
 

@@ -1,10 +1,7 @@
-use Rattle.image.proofs.Ident.{name_differs, name_next, name_same}
 use Rattle.spec.specs.Bytes.{same_bytes}
 use lib.ListN.{take, drop}
-use native.Mathlib.Omega.{arith}
-use mathlib.Core.Path.{◌≡◌, refl}
+use mathlib.Core.Path.{◌≡◌}
 use Prim.Native.Nat.{◌-◌, ◌≤◌}
-use borrow.Author.Rules.{rules}
 use Rattle.image.proofs.Id.named.Given as goal
 
 abbrev pub invariant-loop-i : goal.invariant-loop-i

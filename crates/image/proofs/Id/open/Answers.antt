@@ -1,6 +1,5 @@
 use Rattle.image.proofs.Ident.{ident_short, ident_named, ident_unfinished, ident_other}
 use mathlib.Core.Path.{sym, ◌∙◌}
-use borrow.Author.Rules.{rules}
 use Rattle.image.proofs.Id.open.Goals as goal
 
 pub returns-then-image-lt-LEAST : goal.returns-then-image-lt-LEAST

@@ -1,6 +1,5 @@
 use Rattle.image.proofs.Blocks.{fault_shut, body_none, body_shut, body_go}
 use mathlib.Core.Path.{sym, ◌∙◌}
-use borrow.Author.Rules.{rules}
 use Rattle.image.proofs.Tx.body.Goals as goal
 
 pub returns-then-link-eq0 : goal.returns-then-link-eq0
