@@ -19,17 +19,17 @@ help:
 	@echo 'make demo        the same, then show them at work; installs a C compiler where there is none, by apt-get'
 	@echo 'make install     install what is built under PREFIX ($(PREFIX)), below DESTDIR where that is given'
 	@echo 'make uninstall   remove that again'
-	@echo 'make check       the gate, also as make test: everything proved from nothing, and all tests; installs what it needs'
+	@echo 'make check       the gate, also as make test: everything proved, and all tests; installs what it needs'
 	@echo 'make bench       measure (docs/BENCHMARKS.md)'
 	@echo 'make fuzz        look for differences to plain C'
 	@echo 'make clean       remove build/'
 
-build/libmdf3.a: crates.txt $(shell find crates -type f)
+build/libmdf3.a: crates.txt $(shell find crates -name out -prune -o -type f -print)
 	$(RT)
 	@mkdir -p build
 	@[ -e $@ ] || echo 'The library is proved and built: a few minutes, the first time.'
-	@rt staticlib mdf3 >build/rt.log 2>&1 || { cat build/rt.log >&2; exit 1; }
-	@cp target/staticlib/libmdf3.a $@
+	@(cd crates/mdf3 && rt lib) >build/rt.log 2>&1 || { cat build/rt.log >&2; exit 1; }
+	@cp crates/mdf3/out/libmdf3.a $@
 
 # all of tool/, its man page too: install looks whether something there is younger
 build/mdf3: $(wildcard tool/*) include/mdf3.h build/libmdf3.a
@@ -42,7 +42,7 @@ build/$(SHARED): build/libmdf3.a
 install:
 	@case '$(PREFIX)' in /*) ;; *) echo 'PREFIX has to begin with /' >&2; exit 1 ;; esac
 	@[ -e build/libmdf3.a ] && [ -e build/$(SHARED) ] && [ -e build/mdf3 ] || $(MAKE) --no-print-directory all
-	@[ -z "$$(find crates.txt crates include tool -type f -newer build/mdf3)" ] || \
+	@[ -z "$$(find crates.txt crates include tool -name out -prune -o -type f -newer build/mdf3 -print)" ] || \
 	  { echo 'what is built is older than its sources: run make first' >&2; exit 1; }
 	install -d '$(TO)/include' '$(TO)/lib/pkgconfig' '$(TO)/bin' '$(TO)/share/man/man1' '$(TO)/share/doc/mdf3'
 	install -m 644 include/mdf3.h '$(TO)/include/mdf3.h'

@@ -258,13 +258,13 @@ pub fn put_hd(
 
 // ---- TX, PR, CC and CE: all body
 
-pub const tx_kind: u64 = Tx::ID;
+pub const TX: u64 = Tx::ID;
 
-pub const pr_kind: u64 = Pr::ID;
+pub const PR: u64 = Pr::ID;
 
-pub const cc_kind: u64 = Cc::ID;
+pub const CC: u64 = Cc::ID;
 
-pub const ce_kind: u64 = Ce::ID;
+pub const CE: u64 = Ce::ID;
 
 fn put_block_head(out: &mut [u8], at: usize, id: u64, size: usize)
     requires { at + 4 ≤ length out.old }

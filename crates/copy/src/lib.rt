@@ -100,8 +100,8 @@ fn put_file(out: &mut [u8], image: &[u8], f: File, count: usize)
     put_id_hd(out, image, f, front, count);
     let comment = front.comment;
     let program = front.program;
-    put_channels::put_body(out, front.tx, image, comment, blocks::tx_kind);
-    put_channels::put_body(out, front.pr, image, program, blocks::pr_kind);
+    put_channels::put_body(out, front.tx, image, comment, blocks::TX);
+    put_channels::put_body(out, front.pr, image, program, blocks::PR);
     put_groups::put_groups(out, front.first, image, f.groups(image));
 }
 

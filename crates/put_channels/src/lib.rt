@@ -168,11 +168,11 @@ fn put_bodies(out: &mut [u8], at: usize, image: &[u8], b: Bodies, p: Places)
     let comment = b.comment;
     let long = b.long;
     let display = b.display;
-    put_body(out, p.cc, image, conversion, blocks::cc_kind);
-    put_body(out, p.ce, image, extension, blocks::ce_kind);
-    put_body(out, p.tx, image, comment, blocks::tx_kind);
-    put_body(out, p.long, image, long, blocks::tx_kind);
-    put_body(out, p.display, image, display, blocks::tx_kind);
+    put_body(out, p.cc, image, conversion, blocks::CC);
+    put_body(out, p.ce, image, extension, blocks::CE);
+    put_body(out, p.tx, image, comment, blocks::TX);
+    put_body(out, p.long, image, long, blocks::TX);
+    put_body(out, p.display, image, display, blocks::TX);
 }
 
 // A channel with its bodies at their places, and the link to the next one.

@@ -76,7 +76,7 @@ fn put_blocks(out: &mut [u8], at: usize, image: &[u8], g: Group, sum: Sum, next:
     let comment = g.comment(image);
     put_heads(out, at, image, g, comment, sum, next);
     let tx = at + 58;
-    put_channels::put_body(out, tx, image, comment, blocks::tx_kind);
+    put_channels::put_body(out, tx, image, comment, blocks::TX);
     let cn = tx + put_channels::body_length(comment);
     put_channels::put_channels(out, cn, image, g.channels(image));
     cn + sum.length
