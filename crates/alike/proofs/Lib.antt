@@ -1,2 +1,1 @@
-pub mod Differing
-pub mod Padding
+pub mod Alike

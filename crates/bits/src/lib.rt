@@ -1,23 +1,21 @@
 // The bits of a signal, as a number of either byte order; the number as two's complement.
 #![tactic(auto)]
 
-ghost use Rattle.std.specs.Prelude.{◌≡◌, reverse, ◌+◌, ◌-◌, ◌*◌, ◌/◌, ◌%◌, ◌^◌, ◌≤◌, ◌<◌, leb, pos, negsuc, nat_abs, length, take, drop};
+ghost use Rattle.std.specs.Prelude.{◌≡◌, reverse, ◌+◌, ◌-◌, ◌*◌, ◌/◌, ◌%◌, ◌^◌, ◌≤◌, ◌<◌, nat_abs, length, take, drop};
 ghost use Rattle.spec.specs.Bytes.{number};
 ghost use Rattle.spec.specs.Sample.{number_in, signed_of, twos};
 ghost use Rattle.bits.specs.Bits.{order_of, bits_at};
 
 // ---- numbers of bytes
 
-// The number of n bytes, the highest first.
-fn number_big(image: &[u8], at: usize, n: usize) -> u64
-    requires { (n ≤ 8) × (at + n ≤ length image.now) }
-    ensures { result ≡ number (reverse (take n (drop at image.now))) }
+// The number of these bytes, the highest first.
+fn number_big(bytes: &[u8]) -> u64
+    requires { length bytes.now ≤ 8 }
+    ensures { result ≡ number (reverse bytes.now) }
 {
     let mut v: u64 = 0;
-    let mut k: usize = 0;
-    while k < n {
-        v = v * 256 + image::byte(image, at + k);
-        k += 1;
+    for x in bytes {
+        v = v * 256 + u64::from(*x);
     }
     v
 }
@@ -28,29 +26,18 @@ fn number_at(image: &[u8], at: usize, n: usize, big: bool) -> u64
     ensures { result ≡ number_in (order_of big) (take n (drop at image.now)) }
 {
     if big {
-        return number_big(image, at, n);
+        number_big(&image[at..at + n])
+    } else {
+        image::number(image, at, n)
     }
-    image::number(image, at, n)
-}
-
-// ---- bits of a number
-
-fn pow2(k: usize) -> u64
-    requires { k < 64 }
-    ensures { (result ≡ 2 ^ k) × (0 < result) × (result ≤ 2 ^ 63) }
-{
-    1u64 << k
 }
 
 // The lowest bits.
 fn kept(v: u64, bits: usize) -> u64
-    requires { bits ≤ 64 }
+    requires { (1 ≤ bits) × (bits ≤ 64) }
     ensures { (result ≡ v % 2 ^ bits) × (result < 2 ^ bits) }
 {
-    if bits == 64 {
-        return v;
-    }
-    v % pow2(bits)
+    v & (u64::MAX >> (64 - bits))
 }
 
 // So many bits of the bytes from a place on, above the lowest `skip`.
@@ -58,54 +45,21 @@ pub fn raw(image: &[u8], at: usize, skip: usize, bits: usize, big: bool) -> u64
     requires { (skip < 8) × (1 ≤ bits) × (skip + bits ≤ 64) × (at + (skip + bits + 7) / 8 ≤ length image.now) }
     ensures { (result ≡ bits_at big image.now at skip bits) × (result < 2 ^ bits) }
 {
-    let n = (skip + bits + 7) / 8;
+    let n = (skip + bits).div_ceil(8);
     let v = number_at(image, at, n, big);
     kept(v >> skip, bits)
 }
 
 // ---- two's complement
 
-fn plain(n: u64) -> i64
-    requires { n < 2 ^ 63 }
-    ensures { result ≡ pos n }
-{
-    n as i64
-}
-
-// -1 - k
-fn below_zero(k: u64) -> i64
-    requires { k < 2 ^ 63 }
-    ensures { result ≡ negsuc k }
-{
-    !(k as i64)
-}
-
-// Whether so many bits stand for a number below zero: the highest of them is set.
-fn negative(bits: usize, n: u64) -> bool
-    requires { (1 ≤ bits) × (bits ≤ 64) }
-    ensures { result ≡ leb (2 ^ (bits - 1)) n }
-{
-    pow2(bits - 1) <= n
-}
-
-// How far below -1 it stands then.
-fn depth(bits: usize, n: u64) -> u64
-    requires { (1 ≤ bits) × (bits ≤ 64) × (2 ^ (bits - 1) ≤ n) × (n < 2 ^ bits) }
-    ensures { (result ≡ 2 ^ bits - (n + 1)) × (result < 2 ^ 63) }
-{
-    let half = pow2(bits - 1);
-    half - 1 - (n - half)
-}
-
 // The number that so many bits are in two's complement.
 pub fn signed(bits: usize, n: u64) -> i64
     requires { (1 ≤ bits) × (bits ≤ 64) × (n < 2 ^ bits) }
     ensures { result ≡ signed_of bits n }
 {
-    if negative(bits, n) {
-        return below_zero(depth(bits, n));
-    }
-    plain(n)
+    // the highest of the bits goes to the sign's place, and fills up from there on the way back
+    let unused = 64 - bits;
+    (n << unused).cast_signed() >> unused
 }
 
 // The same number in 64 bits.
@@ -113,10 +67,7 @@ pub fn twos_complement(bits: usize, n: u64) -> u64
     requires { (1 ≤ bits) × (bits ≤ 64) × (n < 2 ^ bits) }
     ensures { result ≡ twos bits n }
 {
-    if negative(bits, n) {
-        return u64::MAX - depth(bits, n);
-    }
-    n
+    signed(bits, n).cast_unsigned()
 }
 
 // The same number without its sign.
@@ -124,8 +75,5 @@ pub fn magnitude(bits: usize, n: u64) -> u64
     requires { (1 ≤ bits) × (bits ≤ 64) × (n < 2 ^ bits) }
     ensures { result ≡ nat_abs (signed_of bits n) }
 {
-    if negative(bits, n) {
-        return depth(bits, n) + 1;
-    }
-    n
+    signed(bits, n).unsigned_abs()
 }

@@ -1,5 +1,5 @@
 -- The bytes of the blocks that are written, over numbers and bytes. Each number is written by its low bytes.
--- What is all numbers is an abbrev: the functions that write it by one array then need no proof file.
+-- What is all numbers is an abbrev, so that it computes to its bytes in the proofs of the functions that write it.
 -- Assumes nothing.
 use Rattle.std.specs.Prelude.{ℕ, ◌+◌, List, ◌++◌, length}
 use Rattle.spec.specs.Bytes.{bytes_of}

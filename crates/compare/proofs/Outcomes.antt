@@ -8,50 +8,55 @@ use lib.ListN.{length, drop}
 use borrow.Author.Tests.{le-leb, lt-leb}
 use Rattle.answers.specs.Readings.{Group, Reading, refused, accepted, join}
 use Rattle.answers.specs.Differences.{Entry, entry_bytes, file_entries, groups_entries, differences, list_length, list_bytes, entry, unless, same_bytes, same_body, same_header}
-use Rattle.answers.specs.Outcomes.{outcome_of, compared, comparing, compare_outcome}
+use Rattle.answers.specs.Outcomes.{Outcome, outcome_of, CopyOutcome, compared, comparing, compare_outcome}
 use Rattle.answers.proofs.Laws.{step, pass, stop, fail}
 use Rattle.write.specs.Write.{wrote_whole}
-use Rattle.reading.specs.Promise.{reads}
+use Rattle.refusal.specs.declared.Refusal.{Refusal}
+use Rattle.refusal.specs.declared.Reason.TheVariants.{CopyTooLong, NoRoom}
+use Rattle.refusal.specs.Refused.{number_of}
+use Rattle.reading.specs.Promise.{reads, image_reading}
+use Rattle.reading.specs.Steps.{AccessIs, reading_of}
+use Rattle.reading.specs.declared.File.{File}
+use Rattle.std.specs.Prelude.{Ok, Err}
 use Rattle.listing.specs.Listing.{capped, entries_bytes, Listed}
 use Rattle.listing.proofs.Laws.{listed_then, entries_length}
-use Rattle.compare.specs.declared.Compared.TheVariants.{Written, Refused}
 use Rattle.compare.specs.Comparing.{ComparedAs, capped_length}
 
 -- ---- answers
 
+-- the reading of an image that is opened
+pub opened : {image : List ℕ} (f : File) → AccessIs image (Ok f) → reads image ≡ accepted (reading_of f)
+opened f e = e.1 ∙ ap (λ x. accepted (image_reading x)) (sym e.0)
+
+answered : {o p : CopyOutcome} {given : Outcome ℕ} {out : List ℕ} → o ≡ p → (given ≡ p.given) × (out ≡ p.memory) → (given ≡ o.given) × (out ≡ o.memory)
+answered e h = (h.0 ∙ sym (ap (λ x. x.given) e), h.1 ∙ sym (ap (λ x. x.memory) e))
+
 module _ (a b out : List ℕ) where
-  pub first_refused : {n p : ℕ} → reads a ≡ refused n p → ComparedAs (compare_outcome a b out) (Refused n p) out
+  pub first_refused : (e : Refusal) → reads a ≡ refused (number_of e.reason) e.place → ComparedAs (compare_outcome a b out) (Err e) out
   unfolding compare_outcome comparing
-  first_refused e =
-      let o = ap (λ m. compared m out) (stop _ e) in
-      record { given = sym (ap (λ x. x.given) o); memory = sym (ap (λ x. x.memory) o) }
+  first_refused e h = answered (ap (λ m. compared m out) (stop _ h)) (refl, refl)
 
   module _ (r : Reading) (e : reads a ≡ accepted r) where
-    pub second_refused : {n p : ℕ} → reads b ≡ refused n p → ComparedAs (compare_outcome a b out) (Refused n p) out
+    pub second_refused : (f : Refusal) → reads b ≡ refused (number_of f.reason) f.place → ComparedAs (compare_outcome a b out) (Err f) out
     unfolding compare_outcome comparing
-    second_refused f =
-        let o = ap (λ m. compared m out) (step _ e (stop _ f)) in
-        record { given = sym (ap (λ x. x.given) o); memory = sym (ap (λ x. x.memory) o) }
+    second_refused f h = answered (ap (λ m. compared m out) (step _ e (stop _ h))) (refl, refl)
 
     module _ (s : Reading) (f : reads b ≡ accepted s) where
-      pub too_long : 2147483647 < list_length r s → ComparedAs (compare_outcome a b out) (Refused 12 0) out
+      pub too_long : 2147483647 < list_length r s → ComparedAs (compare_outcome a b out) (Err (record { reason = CopyTooLong; place = 0 })) out
       unfolding compare_outcome comparing
-      too_long h =
-          let o = ap (λ m. compared m out) (step _ e (step _ f (stop _ (fail _ _ _ (lt-leb _ _ h))))) in
-          record { given = sym (ap (λ x. x.given) o); memory = sym (ap (λ x. x.memory) o) }
+      too_long h = answered (ap (λ m. compared m out) (step _ e (step _ f (stop _ (fail _ _ _ (lt-leb _ _ h)))))) (refl, refl)
 
       module _ (n : ℕ) (k : n ≡ list_length r s) (h : n ≤ 2147483647) where
-        pub no_room : length out < n → ComparedAs (compare_outcome a b out) (Refused 13 n) out
+        pub no_room : length out < n → ComparedAs (compare_outcome a b out) (Err (record { reason = NoRoom; place = n })) out
         unfolding compare_outcome comparing
         no_room l =
-            let o = ap (λ m. compared m out) (step _ e (step _ f (step _ (pass _ _ _ (le-leb _ _ (rw k at h))) (stop _ (fail _ _ _ (lt-leb _ _ (rw k at l))))))) in
-            rw k (record { given = sym (ap (λ x. x.given) o); memory = sym (ap (λ x. x.memory) o) })
+            rw k (answered (ap (λ m. compared m out) (step _ e (step _ f (step _ (pass _ _ _ (le-leb _ _ (rw k at h))) (stop _ (fail _ _ _ (lt-leb _ _ (rw k at l)))))))) (refl, refl))
 
-        pub written : (out₁ : List ℕ) → n ≤ length out → out₁ ≡ list_bytes r s ++ drop n out → ComparedAs (compare_outcome a b out) (Written n) out₁
+        pub written : (out₁ : List ℕ) → n ≤ length out → out₁ ≡ list_bytes r s ++ drop n out → ComparedAs (compare_outcome a b out) (Ok n) out₁
         unfolding compare_outcome comparing
         written out₁ l w =
-            let o = ap (λ m. compared m out) (step _ e (step _ f (step _ (pass _ _ _ (le-leb _ _ (rw k at h))) (step _ (pass _ _ _ (le-leb _ _ (rw k at l))) refl)))) in
-            record { given = ap (λ m. outcome_of (accepted m)) k ∙ sym (ap (λ x. x.given) o); memory = w ∙ ap (λ m. list_bytes r s ++ drop m out) k ∙ sym (ap (λ x. x.memory) o) }
+            answered (ap (λ m. compared m out) (step _ e (step _ f (step _ (pass _ _ _ (le-leb _ _ (rw k at h))) (step _ (pass _ _ _ (le-leb _ _ (rw k at l))) refl)))))
+            (ap (λ m. outcome_of (accepted m)) k, w ∙ ap (λ m. list_bytes r s ++ drop m out) k)
 
 -- ---- the list
 

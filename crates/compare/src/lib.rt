@@ -4,92 +4,79 @@
 ghost use Rattle.std.specs.Prelude.{◌≡◌, ◌≤◌};
 ghost use Rattle.answers.specs.Differences.{file_entries, differences};
 ghost use Rattle.answers.specs.Outcomes.{compare_outcome};
-ghost use Rattle.reading.specs.Promise.{image_reading};
-ghost use Rattle.reading.specs.Steps.{AtFile};
+ghost use Rattle.reading.specs.Steps.{reading_of};
 ghost use Rattle.listing.specs.Listing.{Listed};
-ghost use Rattle.compare.specs.Comparing.{outcome, ComparedAs, capped_length};
+ghost use Rattle.compare.specs.Comparing.{outcome, capped_length};
 
-use reading::{Access, File};
+use listing::Kind;
+use reading::{File, Reason, Refusal};
 
-// The length of the list that was written, or a refusal with its place.
-#[derive(Clone, Copy)]
-pub enum Compared {
-    Written(usize),
-    Refused(u32, usize),
-}
+// No list is longer.
+const LONGEST: usize = 2147483647;
 
 // ID, header, comment and program, behind `at` bytes of a list.
-fn list_file(out: &mut [u8], at: usize, a: &[u8], f: File, b: &[u8], g: File) -> usize
-    requires { AtFile a.now f × AtFile b.now g × (at ≤ 2147483648) }
-    ensures { Listed out.old out.new at result (file_entries (image_reading a.now) (image_reading b.now)) }
+fn list_file(out: &mut [u8], at: usize, f: File, g: File) -> usize
+    requires { at ≤ 2147483648 }
+    ensures { Listed out.old out.new at result (file_entries (reading_of f.entry) (reading_of g.entry)) }
 {
-    let ident = same_parts::same_ident(a, f, b, g);
-    let header = same_parts::same_header(a, f, b, g);
-    let comment = same_parts::same_comment(a, f, b, g);
-    let program = same_parts::same_program(a, f, b, g);
-    let after_ident = listing::list_unless(out, at, ident, 1, 0, 0);
-    let after_header = listing::list_unless(out, after_ident, header, 1, 0, 1);
-    let after_comment = listing::list_unless(out, after_header, comment, 1, 0, 2);
-    listing::list_unless(out, after_comment, program, 1, 0, 3)
+    let ident = same_parts::same_ident(f, g);
+    let header = same_parts::same_header(f, g);
+    let comment = same_parts::same_comment(f, g);
+    let program = same_parts::same_program(f, g);
+    let after_ident = listing::list_unless(out, at, ident, Kind::FilePart as usize, 0, 0);
+    let after_header = listing::list_unless(
+        out,
+        after_ident,
+        header,
+        Kind::FilePart as usize,
+        0,
+        1,
+    );
+    let after_comment = listing::list_unless(
+        out,
+        after_header,
+        comment,
+        Kind::FilePart as usize,
+        0,
+        2,
+    );
+    listing::list_unless(out, after_comment, program, Kind::FilePart as usize, 0, 3)
 }
 
 // The whole list.
-fn list_all(out: &mut [u8], a: &[u8], f: File, b: &[u8], g: File) -> usize
-    requires { AtFile a.now f × AtFile b.now g }
-    ensures { Listed out.old out.new 0 result (differences (image_reading a.now) (image_reading b.now)) }
+fn list_all(out: &mut [u8], f: File, g: File) -> usize
+    ensures { Listed out.old out.new 0 result (differences (reading_of f.entry) (reading_of g.entry)) }
 {
-    let to = list_file(out, 0, a, f, b, g);
-    let x = f.groups(a);
-    let y = g.groups(b);
-    list_groups::list_groups(out, to, a, x, b, y)
+    let to = list_file(out, 0, f, g);
+    let x = f.groups();
+    let y = g.groups();
+    list_groups::list_groups(out, to, x, y)
 }
 
 // Its length: it is listed where there is no room.
-fn list_length(a: &[u8], f: File, b: &[u8], g: File) -> usize
-    requires { AtFile a.now f × AtFile b.now g }
-    ensures { result ≡ capped_length (image_reading a.now) (image_reading b.now) }
+fn list_length(f: File, g: File) -> usize
+    ensures { result ≡ capped_length (reading_of f.entry) (reading_of g.entry) }
 {
-    let mut none = [0u8; 1];
-    list_all(&mut none, a, f, b, g)
+    list_all(&mut [], f, g)
 }
 
-// The list and what the call answers, for two accepted images.
-fn write_list(out: &mut [u8], a: &[u8], f: File, b: &[u8], g: File) -> Compared
-    requires { AtFile a.now f × AtFile b.now g }
-    ensures { ComparedAs (compare_outcome a.now b.now out.old) result out.new }
+// Compares two images: writes the list of their differences from the start of the output, and gives its length. A refused call writes nothing.
+pub fn compare(first: &[u8], second: &[u8], out: &mut [u8]) -> Result<usize, Refusal>
+    ensures { (outcome result ≡ (compare_outcome first.now second.now out.old).given) × (out.new ≡ (compare_outcome first.now second.now out.old).memory) }
 {
-    let length = list_length(a, f, b, g);
-    if 2147483647 < length {
-        return Compared::Refused(12, 0);
+    let f = reading::open(first)?;
+    let g = reading::open(second)?;
+    let length = list_length(f, g);
+    if LONGEST < length {
+        return Err(Reason::CopyTooLong.at(0));
     }
     if out.len() < length {
-        return Compared::Refused(13, length);
+        return Err(Reason::NoRoom.at(length));
     }
     // the same readings: nothing to write
     if length == 0 {
-        return Compared::Written(0);
+        return Ok(0);
     }
-    list_all(out, a, f, b, g);
-    Compared::Written(length)
-}
-
-// Compares two images: writes the list of their differences from the start of the output. A refused call writes nothing.
-pub fn compare(first: &[u8], second: &[u8], out: &mut [u8]) -> Compared
-    ensures { (outcome result ≡ (compare_outcome first.now second.now out.old).given) × (out.new ≡ (compare_outcome first.now second.now out.old).memory) }
-{
-    let access = reading::open(first);
-    match access {
-        Access::Refused(number, place) => {
-            return Compared::Refused(number, place);
-        }
-        Access::Granted(f) => {
-            let other = reading::open(second);
-            match other {
-                Access::Refused(number, place) => {
-                    return Compared::Refused(number, place);
-                }
-                Access::Granted(g) => write_list(out, first, f, second, g),
-            }
-        }
-    }
+    list_all(out, f, g);
+    Ok(length)
 }

@@ -6,40 +6,38 @@ ghost use Rattle.write.specs.Write.{Wrote};
 ghost use Rattle.answers.specs.Readings.{version, hd_written};
 ghost use Rattle.answers.specs.Copies.{copy_length, canonical_copy};
 ghost use Rattle.answers.specs.Outcomes.{copy_outcome};
-ghost use Rattle.reading.specs.Promise.{image_reading};
-ghost use Rattle.reading.specs.Steps.{AtFile};
+ghost use Rattle.reading.specs.Steps.{reading_of};
 ghost use Rattle.put_channels.specs.Channels.{SumIs};
 ghost use Rattle.copy.specs.Copying.{outcome, FrontIs, id_hd_bytes};
 
+use blocks::{Pr, Tx};
 use put_channels::Sum;
-use reading::{Access, Body, File};
+use reading::{File, Reason, Refusal};
 
 // ---- before the groups
 
-fn header_size(image: &[u8], f: File) -> usize
-    requires { AtFile image.now f }
-    ensures { (result ≡ hd_written (version (image_reading image.now))) × (164 ≤ result) × (result ≤ 208) }
+fn header_size(f: File) -> usize
+    ensures { (result ≡ hd_written (version (reading_of f.entry))) × (164 ≤ result) × (result ≤ 208) }
 {
-    blocks::hd_size(f.version(image))
+    blocks::hd_size(f.version())
 }
 
 #[derive(Clone, Copy)]
-struct Front {
+struct Front<'a> {
     size: usize,
-    comment: Body,
-    program: Body,
+    comment: Option<&'a [u8]>,
+    program: Option<&'a [u8]>,
     tx: usize,
     pr: usize,
     first: usize,
 }
 
-fn front_of(image: &[u8], f: File) -> Front
-    requires { AtFile image.now f }
-    ensures { FrontIs image.now result (image_reading image.now) }
+fn front_of<'a>(f: File<'a>) -> Front<'a>
+    ensures { FrontIs result (reading_of f.entry) }
 {
-    let size = header_size(image, f);
-    let comment = f.comment(image);
-    let program = f.program(image);
+    let size = header_size(f);
+    let comment = f.comment();
+    let program = f.program();
     let tx = 64 + size;
     let pr = tx + put_channels::body_length(comment);
     let first = pr + put_channels::body_length(program);
@@ -54,36 +52,31 @@ fn front_of(image: &[u8], f: File) -> Front
 }
 
 // The length of the copy, and how many groups it has.
-fn needed(image: &[u8], f: File) -> Sum
-    requires { AtFile image.now f }
-    ensures { SumIs result (copy_length (image_reading image.now)) (length (image_reading image.now).groups) }
+fn needed(f: File) -> Sum
+    ensures { SumIs result (copy_length (reading_of f.entry)) (length (reading_of f.entry).groups) }
 {
-    let front = front_of(image, f);
-    put_groups::groups_sum(image, f.groups(image), front.first)
+    let front = front_of(f);
+    put_groups::groups_sum(f.groups(), front.first)
 }
 
 // ---- the copy
 
 // ID and HD.
-fn put_id_hd(out: &mut [u8], image: &[u8], f: File, front: Front, count: usize)
-    requires { AtFile image.now f × FrontIs image.now front (image_reading image.now) × (count ≡ length (image_reading image.now).groups) × (64 + front.size ≤ length out.old) }
-    ensures { Wrote out.old out.new 0 (id_hd_bytes (image_reading image.now)) }
+fn put_id_hd(out: &mut [u8], f: File, front: Front, count: usize)
+    requires { FrontIs front (reading_of f) × (count ≡ length (reading_of f).groups) × (64 + front.size ≤ length out.old) }
+    ensures { Wrote out.old out.new 0 (id_hd_bytes (reading_of f.entry)) }
 {
-    blocks::put_id(out, image);
-    let carried = f.fields(image);
-    let size = front.size;
-    let comment = front.comment;
-    let program = front.program;
+    write::put_all(out, 0, f.ident());
+    let carried = f.fields();
     let first = put_groups::link_if(count, front.first);
-    let tx = put_channels::body_link(comment, front.tx);
-    let pr = put_channels::body_link(program, front.pr);
+    let tx = put_channels::body_link(front.comment, front.tx);
+    let pr = put_channels::body_link(front.program, front.pr);
     blocks::put_hd(
         out,
         64,
-        image,
-        carried.from,
-        carried.held,
-        size,
+        carried.main,
+        carried.later,
+        front.size,
         first,
         tx,
         pr,
@@ -92,45 +85,29 @@ fn put_id_hd(out: &mut [u8], image: &[u8], f: File, front: Front, count: usize)
 }
 
 // The whole copy, where there is room for it.
-fn put_file(out: &mut [u8], image: &[u8], f: File, count: usize)
-    requires { AtFile image.now f × (count ≡ length (image_reading image.now).groups) × (copy_length (image_reading image.now) ≤ 2147483647) × (copy_length (image_reading image.now) ≤ length out.old) }
-    ensures { Wrote out.old out.new 0 (canonical_copy (image_reading image.now)) }
+fn put_file(out: &mut [u8], f: File, count: usize)
+    requires { (count ≡ length (reading_of f).groups) × (copy_length (reading_of f) ≤ 2147483647) × (copy_length (reading_of f) ≤ length out.old) }
+    ensures { Wrote out.old out.new 0 (canonical_copy (reading_of f.entry)) }
 {
-    let front = front_of(image, f);
-    put_id_hd(out, image, f, front, count);
-    let comment = front.comment;
-    let program = front.program;
-    put_channels::put_body(out, front.tx, image, comment, blocks::TX);
-    put_channels::put_body(out, front.pr, image, program, blocks::PR);
-    put_groups::put_groups(out, front.first, image, f.groups(image));
+    let front = front_of(f);
+    put_id_hd(out, f, front, count);
+    put_channels::put_body::<Tx>(out, front.tx, front.comment);
+    put_channels::put_body::<Pr>(out, front.pr, front.program);
+    put_groups::put_groups(out, front.first, f.groups());
 }
 
-// A copy of this length, or a refusal with number and place.
-#[derive(Clone, Copy)]
-pub enum Copied {
-    Done(usize),
-    Refused(u32, usize),
-}
-
-// Writes the canonical copy of an image from the start of the output. A refused copy writes nothing.
-pub fn copy(image: &[u8], out: &mut [u8]) -> Copied
+// Writes the canonical copy of an image from the start of the output: its length, or a refusal. A refused copy writes nothing.
+pub fn copy(image: &[u8], out: &mut [u8]) -> Result<usize, Refusal>
     ensures { (outcome result ≡ (copy_outcome image.now out.old).given) × (out.new ≡ (copy_outcome image.now out.old).memory) }
 {
-    let access = reading::open(image);
-    match access {
-        Access::Refused(number, place) => {
-            return Copied::Refused(number, place);
-        }
-        Access::Granted(f) => {
-            let sum = needed(image, f);
-            if 2147483647 < sum.length {
-                return Copied::Refused(12, 0);
-            }
-            if out.len() < sum.length {
-                return Copied::Refused(13, sum.length);
-            }
-            put_file(out, image, f, sum.count);
-            Copied::Done(sum.length)
-        }
+    let f = reading::open(image)?;
+    let sum = needed(f);
+    if 2147483647 < sum.length {
+        return Err(Reason::CopyTooLong.at(0));
     }
+    if out.len() < sum.length {
+        return Err(Reason::NoRoom.at(sum.length));
+    }
+    put_file(out, f, sum.count);
+    Ok(sum.length)
 }

@@ -1,29 +1,32 @@
 -- One turn of the walk over data groups.
 -- Assumes nothing.
-use Prim.Native.Nat.{ℕ, zero, suc, ◌+◌, ◌-◌, ◌≤◌, ◌<◌}
+use Prim.Native.Nat.{ℕ, zero, suc, ◌+◌, ◌-◌, ◌<◌}
 use mathlib.Core.Path.{◌≡◌, refl, sym, ◌∙◌, ap, ap₂}
 use mathlib.Core.List.{List, [], ◌∷◌, map}
 use mathlib.Core.Option.{none}
 use native.Mathlib.Omega.{arith}
-use lib.ListN.{length, take, length-map}
-use lib.Seq.{length-take-le}
-use Rattle.spec.specs.Bytes.{u16, u32, to_link}
-use Rattle.spec.specs.Answer.{Answer, refused, accepted, ◌>>=◌, passed}
+use lib.Dec.{leb}
+use lib.ListN.{length, length-map}
+use Rattle.spec.specs.Bytes.{u16, u32, to_link, is_nil}
+use Rattle.spec.specs.Answer.{Answer, refused, accepted, ◌>>=◌, require, passed}
 use Rattle.spec.specs.Block.{Image, dg_kind, opening, Opened, DgBlock, read_dg}
 use Rattle.spec.specs.Records.{Logged, log_of}
 use Rattle.spec.specs.Found.{FoundGroup, FoundDataGroup, slot_of}
 use Rattle.spec.specs.Walk.{channel_count, data_group_list}
 use Rattle.spec.proofs.Answers.{step, stop}
-use Rattle.image.specs.declared.Span.{Span}
+use Rattle.refusal.specs.declared.Reason.{Reason}
 use Rattle.image.specs.declared.Block.TheVariants.{Shut}
-use Rattle.image.specs.declared.Step.TheVariants.{Go, Stop}
-use Rattle.image.specs.Spans.{block_of, block_in, opened_as, step_of}
-use Rattle.image.proofs.Blocks.{not_nil, Stands, open_shut, open_open}
-use Rattle.walk.specs.Steps.{after}
-use Rattle.records.specs.Slots.{slots_of, Alike}
-use Rattle.records.proofs.Turns.{length_slots}
-use Rattle.walk.specs.Lists.{Summary, summed, groups_from, Table}
-use Rattle.walk.proofs.GroupList.{after_bind, seen_then}
+use Rattle.image.specs.declared.Span.{Span}
+use Rattle.image.specs.declared.Block.{Block}
+use Rattle.std.specs.Prelude.{Result, Ok, Err}
+use Rattle.refusal.specs.declared.Refusal.{Refusal}
+use Rattle.refusal.specs.Refused.{number_of, done}
+use Rattle.image.specs.Spans.{block_of, block_in, opened_as}
+use Rattle.image.proofs.Blocks.{not_nil, Stands, open_open}
+use Rattle.walk.specs.Steps.{◌then◌}
+use Rattle.walk.specs.Lists.{Summary, summed, groups_from}
+use Rattle.walk.proofs.Channels.{then_left, then_right, found_refused}
+use Rattle.walk.proofs.GroupList.{then_bind, seen_then}
 use Rattle.file.specs.DataGroups.{Counts, groups_then_log, data_group_at, data_groups_from}
 
 -- ---- one data group
@@ -33,20 +36,26 @@ module _ (image : Image) (mode g n : ℕ) (b : Span) where
   unfolding groups_then_log
   groups_refused e = sym (stop _ (sym e))
 
-  module _ (s : Summary) (e : accepted s ≡ groups_from image mode [] [] (b.at + 8) (u32 8 (block_in image.bytes b)) g n) where
-    pub log_refused : {k q : ℕ} → Stop k q ≡ step_of (log_of image.bytes mode s.slots (b.at + 16) (to_link (u32 16 (block_in image.bytes b)))) → refused k q ≡ groups_then_log image mode g n b
-    unfolding groups_then_log after
-    log_refused f = sym (step _ (sym e) (rw (sym f)))
+  module _ (s : Summary) (e : accepted s ≡ groups_from image mode [] [] (b.at + 8) (u32 8 (block_in image.bytes b)) g n)
+      {x : Result (Unit {0}) Refusal} (d : done x ≡ passed (log_of image.bytes mode s.slots (b.at + 16) (to_link (u32 16 (block_in image.bytes b))))) where
+    pub log_refused : {f : Refusal} → x ≡ Err f → refused (number_of f.reason) f.place ≡ groups_then_log image mode g n b
+    unfolding groups_then_log
+    log_refused f = then_left d _ f ∙ sym (step _ (sym e) refl)
 
-    pub log_passed : Go ≡ step_of (log_of image.bytes mode s.slots (b.at + 16) (to_link (u32 16 (block_in image.bytes b))))
+    pub log_passed : {u : Unit {0}} → x ≡ Ok u
         → (groups channels : ℕ) → groups ≡ g + length s.slots → channels ≡ s.channels → accepted (record { groups = groups; channels = channels }) ≡ groups_then_log image mode g n b
-    unfolding groups_then_log after
-    log_passed f groups channels x y = (λ i. accepted (record { groups = x i; channels = y i })) ∙ sym (step _ (sym e) (rw (sym f)))
+    unfolding groups_then_log
+    log_passed f groups channels x y = then_right d f (λ i. accepted (record { groups = x i; channels = y i })) ∙ sym (step _ (sym e) refl)
 
 -- ---- a turn
 
-pub passed_then : {A B : Type 0} (m : Answer A) (f : A → Answer B) (t : Answer (Unit {0})) → ((a : A) → passed (f a) ≡ t) → passed (m >>= f) ≡ after (step_of m) t
+pub passed_then : {A B : Type 0} (m : Answer A) (f : A → Answer B) (t : Answer (Unit {0})) → ((a : A) → passed (f a) ≡ t) → passed (m >>= f) ≡ (passed m then t)
 passed_then = seen_then passed (λ k p. refl)
+
+pub passed_test : {B : Type 0} (m : Answer (Unit {0})) (f : Unit {0} → Answer B) (t : Answer (Unit {0})) → ((a : Unit {0}) → passed (f a) ≡ t) → passed (m >>= f) ≡ (m then t)
+unfolding ◌>>=◌ ◌then◌
+passed_test (refused k p) f t h = refl
+passed_test (accepted a) f t h = h a
 
 passed_more : {A : Type 0} (a : A) (m : Answer (List A)) → passed (m >>= λ rest. accepted (a ∷ rest)) ≡ passed m
 unfolding ◌>>=◌
@@ -68,25 +77,29 @@ module _ (image : Image) (d g n : ℕ) (b : Span) where
 
   groups_part : (mode : ℕ) (m : Answer (List FoundGroup))
       → passed (m >>= λ gs. logged mode gs >>= λ log. following (1024 - g - length gs) (16384 - n - channel_count gs) >>= λ rest. accepted (record { block = dg; groups = gs; log = log } ∷ rest))
-      ≡ ((summed [] n m >>= λ s. after (step_of (log_of image.bytes mode s.slots (b.at + 16) (to_link (u32 16 (block_in image.bytes b))))) (accepted (record { groups = g + length s.slots; channels = s.channels }))) >>= onwards)
+      ≡ ((summed [] n m >>= λ s. passed (log_of image.bytes mode s.slots (b.at + 16) (to_link (u32 16 (block_in image.bytes b)))) then accepted (record { groups = g + length s.slots; channels = s.channels })) >>= onwards)
   unfolding ◌>>=◌ data_groups_from
   groups_part mode (refused k p) = refl
   groups_part mode (accepted gs) =
       let e : 1024 - g - length gs ≡ 1024 - (g + length (map slot_of gs)) = omega (arith, length-map gs slot_of) in
       let f : 16384 - n - channel_count gs ≡ 16384 - (n + channel_count gs) = omega arith in
       passed_then (logged mode gs) _ (passed (following (1024 - g - length gs) (16384 - n - channel_count gs))) (λ log. passed_more _ (following (1024 - g - length gs) (16384 - n - channel_count gs)))
-      ∙ ap₂ (λ (j k : ℕ). after (step_of (logged mode gs)) (passed (following j k))) e f
-      ∙ sym (after_bind (step_of (logged mode gs)) (accepted (record { groups = g + length (map slot_of gs); channels = n + channel_count gs })) onwards)
+      ∙ ap₂ (λ (j k : ℕ). passed (logged mode gs) then passed (following j k)) e f
+      ∙ sym (then_bind (passed (logged mode gs)) (accepted (record { groups = g + length (map slot_of gs); channels = n + channel_count gs })) onwards)
 
   module _ (field : ℕ) (h : b.at ≡ 0 → ⊥) (l : d < 1024) (s : Stands dg_kind image b.at b) where
     turn_at : data_groups_from image field b.at d g n ≡ (data_group_at image g n b >>= onwards)
     unfolding data_groups_from data_group_list data_group_at groups_then_log groups_from read_dg
     turn_at =
         let one : 1024 - d ≡ suc (1024 - (d + 1)) = omega arith in
+        let mode = u16 22 (block_in image.bytes b) in
+        let trigger = require (is_nil (to_link (u32 12 (block_in image.bytes b)))) 6 (b.at + 12) in
+        let modes = require (leb mode 2) 8 (b.at + 22) in
+        let logs = groups_then_log image mode g n b in
         rw (not_nil b.at h, one)
         (ap passed (step _ (open_open dg_kind read_dg image field b.at b s) refl)
-        ∙ passed_then _ _ _ (λ _. passed_then _ _ _ (λ _. groups_part (u16 22 (block_in image.bytes b)) _))
-        ∙ sym (after_bind _ _ onwards ∙ ap (after _) (after_bind _ _ onwards)))
+        ∙ passed_test _ _ _ (λ _. passed_test _ _ _ (λ _. groups_part (u16 22 (block_in image.bytes b)) _))
+        ∙ sym (then_bind trigger (modes then logs) onwards ∙ ap (λ t. trigger then t) (then_bind modes logs onwards)))
 
 no_data_groups : (image : Image) (left gl cl field : ℕ) → data_group_list image left gl cl field none ≡ accepted []
 unfolding data_group_list
@@ -104,11 +117,12 @@ module _ (image : Image) (field l d g n : ℕ) where
     data_groups_full e = rw (e, not_nil l h)
 
     module _ (m : d < 1024) where
-      pub data_groups_shut : {k : ℕ} → Shut k ≡ block_of l (opening dg_kind image l) → data_groups_from image field l d g n ≡ refused k field
+      pub data_groups_shut : {r : Reason} {x : Block} → x ≡ block_of l (opening dg_kind image l) → x ≡ Shut r
+          → data_groups_from image field l d g n ≡ refused (number_of r) field
       unfolding data_groups_from data_group_list
-      data_groups_shut e =
+      data_groups_shut o e =
           let one : 1024 - d ≡ suc (1024 - (d + 1)) = omega arith in
-          rw (not_nil l h, one) (ap passed (stop _ (open_shut dg_kind read_dg image field l e)))
+          rw (not_nil l h, one) (ap passed (stop _ (found_refused dg_kind read_dg image field l o e)))
 
       module _ (b : Span) (s : Stands dg_kind image l b) where
         turn : data_groups_from image field l d g n ≡ (data_group_at image g n b >>= onwards image d g n b)
@@ -122,21 +136,3 @@ module _ (image : Image) (field l d g n : ℕ) where
         pub data_groups_go : {k : Counts} → accepted k ≡ data_group_at image g n b
             → data_groups_from image field l d g n ≡ data_groups_from image (b.at + 4) (u32 4 (block_in image.bytes b)) (d + 1) k.groups k.channels
         data_groups_go e = turn ∙ step _ (sym e) refl
-
--- ---- the first n slots of a table
-
-module _ (xs ys zs : List ℕ) (t : Table xs ys zs) (n : ℕ) (h : n ≤ 1024) where
-  pub first_ids : length (take n xs) ≡ n
-  first_ids = length-take-le n xs (omega (arith, t.ids))
-
-  pub first_sizes : length (take n ys) ≡ n
-  first_sizes = length-take-le n ys (omega (arith, t.sizes))
-
-  pub first_counts : length (take n zs) ≡ n
-  first_counts = length-take-le n zs (omega (arith, t.counts))
-
-  pub first_alike : Alike (take n xs) (take n ys) (take n zs)
-  first_alike = record { sizes = first_sizes ∙ sym first_ids; counts = first_counts ∙ sym first_ids }
-
-  pub first_many : length (slots_of (take n xs) (take n ys) (take n zs)) ≡ n
-  first_many = length_slots (take n xs) (take n ys) (take n zs) first_alike.sizes first_alike.counts ∙ first_ids

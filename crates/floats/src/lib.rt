@@ -12,43 +12,28 @@ ghost use Rattle.spec.specs.Sample.{finite};
 pub fn double_of(n: u64) -> f64
     ensures { result ≡ from_bits binary64 n }
 {
-    if 0x7ff0_0000_0000_0000 < n % 0x8000_0000_0000_0000 {
-        0.0 / 0.0
-    } else {
-        f64::from_bits(n)
-    }
+    std::num::f64_from_bits_with_nan(n)
 }
 
+// Stays beside `double_of`: the library has one call for each width too, and a trait over them would be longer.
 pub fn single_of(n: u32) -> f32
     ensures { result ≡ from_bits binary32 n }
 {
-    if 0x7f80_0000 < n % 0x8000_0000 {
-        0.0f32 / 0.0f32
-    } else {
-        f32::from_bits(n)
-    }
+    std::num::f32_from_bits_with_nan(n)
 }
 
 // The bits of a number; those of the quiet NaN for a NaN.
 pub fn double_bits(x: f64) -> u64
     ensures { result ≡ to_bits binary64 x }
 {
-    if x != x {
-        0x7ff8_0000_0000_0000
-    } else {
-        f64::to_bits(x)
-    }
+    std::num::f64_to_bits_with_nan(x)
 }
 
-// Between the two infinities.
+// Neither an infinity nor a NaN.
 pub fn is_finite(x: f64) -> bool
     ensures { result ≡ finite x }
 {
-    if f64::from_bits(0xfff0_0000_0000_0000) < x {
-        x < f64::from_bits(0x7ff0_0000_0000_0000)
-    } else {
-        false
-    }
+    x.is_finite()
 }
 
 // ---- integers

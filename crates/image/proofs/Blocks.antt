@@ -9,34 +9,47 @@ use lib.ListN.{length, take, drop, length-drop}
 use lib.Seq.{length-take-le}
 use borrow.Author.Tests.{leb-true}
 use Rattle.spec.specs.Bytes.{to_link}
-use Rattle.spec.specs.Answer.{Answer, refused, accepted, at_place}
+use Rattle.spec.specs.Answer.{Answer, refused, accepted, passed, at_place}
 use Rattle.spec.specs.Block.{Kind, Image, size_at, opening, open_block, open_as, body_of, body_at}
 use Rattle.spec.proofs.Answers.{step, Gives, gives, bind, test}
+use Rattle.spec.specs.Opening.{OneOfFour}
+use mathlib.Core.Logic.{⊎_elim}
 use Rattle.spec.proofs.Opening.{no_other_fault, fault_is_passed_on}
 use Rattle.image.specs.declared.Span.{Span}
 use Rattle.image.specs.declared.Block.{Block}
 use Rattle.image.specs.declared.Block.TheVariants.{Open, Shut}
-use Rattle.image.specs.declared.Step.TheVariants.{Go, Stop}
-use Rattle.image.specs.Spans.{block_of, fault_of, block_in, Inside, opened_as, step_of}
+use Rattle.refusal.specs.declared.Reason.{Reason}
+use Rattle.refusal.specs.Refused.{number_of, reason_of}
+use Rattle.image.specs.Spans.{block_of, IsShut, block_in, Inside, opened_as}
 
 pub not_nil : (p : ℕ) → (p ≡ 0 → ⊥) → to_link p ≡ some p
 not_nil zero h = absurd (h refl)
 not_nil (suc p) h = refl
 
--- ---- a block that does not open is refused with its number
+-- ---- a block that does not open is refused with the number of its reason
 
--- the number that `fault` gives of a block that is shut
-pub fault_shut : {x y : Block} {m n : ℕ} → x ≡ y → x ≡ Shut n → m ≡ fault_of x → Shut m ≡ y
-fault_shut e s f = ap Shut (f ∙ ap fault_of s) ∙ sym s ∙ e
+-- the number of the reason of a block that is shut
+reason_number : Block → ℕ
+reason_number (Open b) = 0
+reason_number (Shut r) = number_of r
 
-shut_is : (k : Kind) (image : Image) (p : ℕ) {n : ℕ} → Shut n ≡ block_of p (opening k image p) → opening k image p ≡ refused n 0
-shut_is k image p {n} = go (opening k image p) refl
+-- each of the four has its number
+pub four : (n : ℕ) → OneOfFour n → number_of (reason_of n) ≡ n
+four n = ⊎_elim (λ e. rw e refl) (⊎_elim (λ e. rw e refl) (⊎_elim (λ e. rw e refl) (λ e. rw e refl)))
+
+shut_is : (k : Kind) (image : Image) (p : ℕ) {r : Reason} → Shut r ≡ block_of p (opening k image p) → opening k image p ≡ refused (number_of r) 0
+unfolding reason_number
+shut_is k image p {r} = go (opening k image p) refl
   where
-    go : (m : Answer (List ℕ)) → opening k image p ≡ m → Shut n ≡ block_of p m → opening k image p ≡ refused n 0
+    go : (m : Answer (List ℕ)) → opening k image p ≡ m → Shut r ≡ block_of p m → opening k image p ≡ refused (number_of r) 0
     go (refused n' q) o e =
-        let a : n ≡ n' = ap fault_of e in
-        o ∙ rw (a, (no_other_fault k image p n' q o).1)
+        let f = no_other_fault k image p n' q o in
+        let a : number_of r ≡ n' = ap reason_number e ∙ four n' f.0 in
+        o ∙ rw (a, f.1)
     go (accepted x) o e = let z : ◌≡◌ {A = ℕ} 0 1 = cc in absurd (omega arith)
+
+pub shut : {x : Block} {r : Reason} → x ≡ Shut r → IsShut x
+shut e = rw e tt
 
 -- ---- a block that opens
 
@@ -69,7 +82,7 @@ stands k image p b = go (opening k image p) refl
         rw i (record { is = o ∙ ap accepted s.0; place = refl; inside = s.1; least = s.2 })
 
 module _ {A : Type 0} (k : Kind) (read : List ℕ → A) (image : Image) (link_field p : ℕ) where
-  pub open_shut : {n : ℕ} → Shut n ≡ block_of p (opening k image p) → open_as k read image link_field p ≡ refused n link_field
+  pub open_shut : {r : Reason} → Shut r ≡ block_of p (opening k image p) → open_as k read image link_field p ≡ refused (number_of r) link_field
   open_shut e = (fault_is_passed_on A k read image link_field p _ _ (shut_is k image p e)).0
 
   pub open_open : (b : Span) → Stands k image p b → open_as k read image link_field p ≡ accepted (opened_as read image.bytes b)
@@ -80,17 +93,17 @@ module _ {A : Type 0} (k : Kind) (read : List ℕ → A) (image : Image) (link_f
 
 -- ---- the body behind a link
 
-pub body_none : (k : Kind) (image : Image) (link_field l : ℕ) → l ≡ 0 → Go ≡ step_of (body_at k image link_field (to_link l))
+pub body_none : (k : Kind) (image : Image) (link_field l : ℕ) → l ≡ 0 → accepted tt ≡ passed (body_at k image link_field (to_link l))
 unfolding body_at
 body_none k image link_field l e = rw e
 
 module _ (k : Kind) (image : Image) (link_field l : ℕ) (h : l ≡ 0 → ⊥) where
-  pub body_shut : {n : ℕ} → Shut n ≡ block_of l (opening k image l) → Stop n link_field ≡ step_of (body_at k image link_field (to_link l))
-  body_shut e = rw (not_nil l h) (sym (ap step_of (fault_is_passed_on (List ℕ) k body_of image link_field l _ _ (shut_is k image l e)).1))
+  pub body_shut : {r : Reason} → Shut r ≡ block_of l (opening k image l) → refused (number_of r) link_field ≡ passed (body_at k image link_field (to_link l))
+  body_shut e = rw (not_nil l h) (sym (ap passed (fault_is_passed_on (List ℕ) k body_of image link_field l _ _ (shut_is k image l e)).1))
 
   pub body_open : (b : Span) → Stands k image l b → body_at k image link_field (to_link l) ≡ accepted (some (opened_as body_of image.bytes b))
   unfolding body_at
   body_open b s = rw (not_nil l h) (step _ (open_open k body_of image link_field l b s) refl)
 
-  pub body_go : (b : Span) → Open b ≡ block_of l (opening k image l) → Go ≡ step_of (body_at k image link_field (to_link l))
-  body_go b e = sym (ap step_of (body_open b (stands k image l b e)))
+  pub body_go : (b : Span) → Open b ≡ block_of l (opening k image l) → accepted tt ≡ passed (body_at k image link_field (to_link l))
+  body_go b e = sym (ap passed (body_open b (stands k image l b e)))

@@ -11,7 +11,7 @@ use lib.Seq.{take-nil, drop-nil}
 use Rattle.image.specs.Spans.{number_at}
 
 -- one byte more at the low end
-number_step : (image : List ℕ) (at n : ℕ) → number_at image at (suc n) ≡ get_or image at 0 + 256 * number_at image (suc at) n
+pub number_step : (image : List ℕ) (at n : ℕ) → number_at image at (suc n) ≡ get_or image at 0 + 256 * number_at image (suc at) n
 unfolding number_at
 number_step [] at n = rw (drop-nil at, drop-nil (suc at), take-nil n)
 number_step (x ∷ xs) zero n = refl

@@ -7,8 +7,8 @@ use Rattle.spec.specs.Block.{Kind, Opened, finalized, unfinalized}
 use Rattle.image.specs.declared.Span.{Span}
 use Rattle.image.specs.declared.Block.{Block}
 use Rattle.image.specs.declared.Block.TheVariants.{Open, Shut}
-use Rattle.image.specs.declared.Step.{Step}
-use Rattle.image.specs.declared.Step.TheVariants.{Go, Stop}
+use Rattle.refusal.specs.declared.Reason.TheVariants.{NoMdf, Unfinalized}
+use Rattle.refusal.specs.Refused.{reason_of}
 
 -- the number of n bytes from a place on
 unfoldable pub number_at : List ℕ → ℕ → ℕ → ℕ
@@ -20,13 +20,13 @@ kind_of id least = record { first = id % 256; second = id / 256; least = least }
 
 -- an opening's answer as the code gives it
 abbrev pub block_of : ℕ → Answer (List ℕ) → Block
-block_of at (refused n p) = Shut n
+block_of at (refused n p) = Shut (reason_of n)
 block_of at (accepted block) = Open (record { at = at; size = length block })
 
--- the number of the refusal of a block that is shut; 0 of one that is open
-abbrev pub fault_of : Block → ℕ
-fault_of (Open b) = 0
-fault_of (Shut n) = n
+-- a block that did not open
+abbrev pub IsShut : Block → Type 0
+IsShut (Open b) = ⊥
+IsShut (Shut r) = Unit {0}
 
 -- the bytes of a block, and that they are all in the image
 abbrev pub block_in : List ℕ → Span → List ℕ
@@ -44,11 +44,6 @@ pub record Holds (n : ℕ) (image : List ℕ) (b : Span) : Type 0 where
 abbrev pub field_number : List ℕ → Span → ℕ → ℕ → ℕ
 field_number image b offset n = number (field n offset (block_in image b))
 
--- an answer as a step of the code
-abbrev pub step_of : {A : Type 0} → Answer A → Step
-step_of (refused n p) = Stop n p
-step_of (accepted a) = Go
-
 -- an opened block as its reader gives it
 abbrev pub opened_as : {A : Type 0} → (List ℕ → A) → List ℕ → Span → Opened A
 opened_as read image b = record { place = b.at; size = b.size; content = read (block_in image b) }
@@ -58,4 +53,4 @@ unfoldable pub ident_block : List ℕ → Block
 ident_block image =
     cond (leb 64 (length image) && same_bytes (take 8 image) finalized)
     (Open (record { at = 0; size = 64 }))
-    (Shut (cond (leb 64 (length image) && same_bytes (take 8 image) unfinalized) 3 2))
+    (Shut (cond (leb 64 (length image) && same_bytes (take 8 image) unfinalized) Unfinalized NoMdf))

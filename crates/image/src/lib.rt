@@ -1,29 +1,27 @@
 // Numbers, blocks and their fields. A block may be looked for at any place; a byte beyond the image's end reads as 0.
 #![tactic(auto)]
 
-ghost use Rattle.std.specs.Prelude.{◌≡◌, ◌+◌, ◌^◌, ◌≤◌, ◌<◌, length, take, get_or};
-ghost use Rattle.spec.specs.Bytes.{same_bytes, u16, u32, u64, to_link};
-ghost use Rattle.spec.specs.Block.{image_of, opening, body_at, hd_kind, dg_kind, cg_kind, cn_kind, cc_kind, tx_kind, pr_kind, ce_kind};
-ghost use Rattle.image.specs.Spans.{number_at, kind_of, block_of, fault_of, block_in, Inside, field_number, step_of, ident_block};
+ghost use Rattle.std.specs.Prelude.{◌≡◌, ℕ, ◌+◌, ◌^◌, ◌≤◌, ◌<◌, length, get_or};
+ghost use Rattle.spec.specs.Bytes.{u16, u32, u64, to_link};
+ghost use Rattle.spec.specs.Answer.{passed};
+ghost use Rattle.spec.specs.Block.{image_of, opening, body_at};
+ghost use Rattle.refusal.specs.Refused.{done};
+ghost use Rattle.refusal.specs.declared.Reason.{Reason};
+ghost use Rattle.image.specs.declared.Block.TheVariants.{Shut};
+ghost use Rattle.std.proofs.Common.{rules};
+ghost use Rattle.image.specs.Spans.{number_at, kind_of, block_of, IsShut, block_in, Inside, field_number, ident_block};
+
+use refusal::{Reason, Refusal};
 
 // ---- numbers
-
-fn wide(x: u8) -> u64
-    ensures { (result ≡ x) × (result < 256) }
-{
-    x as u64
-}
-
-pub fn wide16(x: u16) -> usize
-    ensures { (result ≡ x) × (result < 65536) }
-{
-    x as usize
-}
 
 pub fn byte(image: &[u8], at: usize) -> u64
     ensures { (result ≡ get_or image.now at 0) × (result < 256) }
 {
-    if at < image.len() { wide(image[at]) } else { 0 }
+    match image.get(at) {
+        Some(x) => u64::from(*x),
+        None => 0,
+    }
 }
 
 // The number of n bytes, the lowest first.
@@ -36,9 +34,7 @@ pub fn number(image: &[u8], at: usize, n: usize) -> u64
         return 0;
     }
     let mut v: u64 = 0;
-    let mut k = n;
-    while 0 < k {
-        k -= 1;
+    for k in (0..n).rev() {
         v = v * 256 + byte(image, at + k);
     }
     v
@@ -63,32 +59,23 @@ pub struct Span {
     pub size: usize,
 }
 
-// Open, or shut with the number of the refusal.
+// Open, or shut for a reason. An enum of its own and no `Result`, for each link is followed by `let Block::Open(..) = .. else`.
 #[derive(Clone, Copy)]
 pub enum Block {
     Open(Span),
-    Shut(u32),
+    Shut(Reason),
 }
 
-// Why a block does not open.
 impl Block {
-    // Its head is not wholly in the image.
-    const HEAD: u32 = 5;
-    // Its identifier is another.
-    const IDENTIFIER: u32 = 17;
-    // Its size is below the least.
-    const SIZE: u32 = 18;
-    // It ends beyond the image.
-    const END: u32 = 19;
-}
-
-// The number of the refusal of a block that is shut; 0 of one that is open.
-pub fn fault(b: Block) -> u32
-    ensures { result ≡ fault_of b }
-{
-    match b {
-        Block::Open(_s) => 0,
-        Block::Shut(number) => number,
+    // The refusal of a block that is shut, at the field of the link that leads to it.
+    pub fn refused(self, field: usize) -> Refusal
+        requires { IsShut self }
+        ensures { (r : Reason) → self ≡ Shut r → result ≡ record { reason = r; place = field } }
+    {
+        match self {
+            Block::Open(_b) => unreachable!(),
+            Block::Shut(reason) => reason.at(field),
+        }
     }
 }
 
@@ -96,24 +83,18 @@ pub fn fault(b: Block) -> u32
 fn open_block(image: &[u8], at: usize, id: u64, least: usize) -> Block
     ensures { result ≡ block_of at (opening (kind_of id least) (image_of image.now) at) }
 {
-    if image.len() < 4 {
-        return Block::Shut(Block::HEAD);
+    if image.len() < 4 || image.len() - 4 < at {
+        return Block::Shut(Reason::BlockHead);
     }
-    if image.len() - 4 < at {
-        return Block::Shut(Block::HEAD);
-    }
-    if byte(image, at) != id % 256 {
-        return Block::Shut(Block::IDENTIFIER);
-    }
-    if byte(image, at + 1) != id / 256 {
-        return Block::Shut(Block::IDENTIFIER);
+    if number(image, at, 2) != id {
+        return Block::Shut(Reason::BlockIdentifier);
     }
     let size = number(image, at + 2, 2) as usize;
     if size < least {
-        return Block::Shut(Block::SIZE);
+        return Block::Shut(Reason::BlockSize);
     }
     if image.len() - at < size {
-        return Block::Shut(Block::END);
+        return Block::Shut(Reason::BlockEnd);
     }
     Block::Open(Span { at, size })
 }
@@ -132,6 +113,7 @@ fn number_in(image: &[u8], b: Span, offset: usize, n: usize) -> u64
     number(image, at + offset, n)
 }
 
+// One for each width: with it goes what the number is below.
 pub fn u16_in(image: &[u8], b: Span, offset: usize) -> usize
     requires { (offset < 65536) × Inside image.now b }
     ensures { (result ≡ u16 offset (block_in image.now b)) × (result < 65536) }
@@ -153,241 +135,216 @@ pub fn u64_in(image: &[u8], b: Span, offset: usize) -> u64
     number_in(image, b, offset, 8)
 }
 
-// ---- steps of a check
-
-// Passed, or refused with a number and a place.
-#[derive(Clone, Copy)]
-pub enum Step {
-    Go,
-    Stop(u32, usize),
-}
-
 // ---- the kinds of block: identifier as a number of two bytes, least and written size. Those without a written size are written at their own.
 
-// The identification, at 0. No link leads to it, it holds no size, and its identifiers have 8 bytes.
-#[derive(Clone, Copy)]
-pub struct Id;
+pub trait Kind {
+    ghost ID: { ℕ };
 
-impl Id {
-    pub const ID: [u8; 8] = [77, 68, 70, 32, 32, 32, 32, 32];
-    // That of a file that was not finalized.
-    pub const UNFINALIZED: [u8; 8] = [85, 110, 70, 105, 110, 77, 70, 32];
+    ghost LEAST: { ℕ };
 
-    pub const LEAST: usize = 64;
+    const ID: u64;
 
-    pub const WRITTEN: usize = 64;
+    const LEAST: usize;
 
-    // Whether the image begins with this identifier.
-    pub fn named(image: &[u8], name: [u8; 8]) -> bool
-        requires { 8 ≤ length image.now }
-        ensures { result ≡ same_bytes (take 8 image.now) name }
+    fn open(image: &[u8], at: usize) -> Block
+        ensures { result ≡ block_of at (opening (kind_of ID LEAST) (image_of image.now) at) }
     {
-        let mut i: usize = 0;
-        while i < 8 {
-            if image[i] != name[i] {
-                return false;
-            }
-            i += 1;
-        }
-        true
+        open_block(image, at, Self::ID, Self::LEAST)
     }
 
-    // Shut: 2, or 3 where the file was not finalized.
-    pub fn open(image: &[u8]) -> Block
-        ensures { result ≡ ident_block image.now }
+    // The body behind a link, refused at the link's field.
+    fn body(image: &[u8], field: usize, link: usize) -> Result<(), Refusal>
+        ensures { done result ≡ passed (body_at (kind_of ID LEAST) (image_of image.now) field (to_link link)) }
     {
-        if image.len() < Self::LEAST {
-            return Block::Shut(2);
+        if link == 0 {
+            return Ok(());
         }
-        if Self::named(image, Self::ID) {
-            return Block::Open(Span {
-                at: 0,
-                size: Self::LEAST,
-            });
-        }
-        if Self::named(image, Self::UNFINALIZED) {
-            return Block::Shut(3);
-        }
-        Block::Shut(2)
+        let opened = Self::open(image, link);
+        let Block::Open(_b) = opened else {
+            return Err(opened.refused(field));
+        };
+        Ok(())
     }
+
+    // Its identifier and its size are in it.
+    ghost whole: { 4 ≤ LEAST };
 }
 
 // The header, at 64.
 #[derive(Clone, Copy)]
 pub struct Hd;
 
-impl Hd {
-    pub const ID: u64 = 0x4448;
+impl Kind for Hd {
+    ghost ID = { 17480 };
 
-    pub const LEAST: usize = 164;
+    ghost LEAST = { 164 };
+
+    ghost whole = { Prim.search rules };
+
+    const ID: u64 = 0x4448;
+
+    const LEAST: usize = 164;
+}
+
+impl Hd {
     // The size written below version 320, and from it on.
     pub const WRITTEN: usize = 164;
 
     pub const WRITTEN_320: usize = 208;
-
-    pub fn open(image: &[u8], at: usize) -> Block
-        ensures { result ≡ block_of at (opening hd_kind (image_of image.now) at) }
-    {
-        open_block(image, at, Self::ID, Self::LEAST)
-    }
 }
 
 // A data group.
 #[derive(Clone, Copy)]
 pub struct Dg;
 
+impl Kind for Dg {
+    ghost ID = { 18244 };
+
+    ghost LEAST = { 24 };
+
+    ghost whole = { Prim.search rules };
+
+    const ID: u64 = 0x4744;
+
+    const LEAST: usize = 24;
+}
+
 impl Dg {
-    pub const ID: u64 = 0x4744;
-
-    pub const LEAST: usize = 24;
-
     pub const WRITTEN: usize = 28;
-
-    pub fn open(image: &[u8], at: usize) -> Block
-        ensures { result ≡ block_of at (opening dg_kind (image_of image.now) at) }
-    {
-        open_block(image, at, Self::ID, Self::LEAST)
-    }
 }
 
 // A channel group.
 #[derive(Clone, Copy)]
 pub struct Cg;
 
+impl Kind for Cg {
+    ghost ID = { 18243 };
+
+    ghost LEAST = { 26 };
+
+    ghost whole = { Prim.search rules };
+
+    const ID: u64 = 0x4743;
+
+    const LEAST: usize = 26;
+}
+
 impl Cg {
-    pub const ID: u64 = 0x4743;
-
-    pub const LEAST: usize = 26;
-
     pub const WRITTEN: usize = 30;
-
-    pub fn open(image: &[u8], at: usize) -> Block
-        ensures { result ≡ block_of at (opening cg_kind (image_of image.now) at) }
-    {
-        open_block(image, at, Self::ID, Self::LEAST)
-    }
 }
 
 // A channel.
 #[derive(Clone, Copy)]
 pub struct Cn;
 
+impl Kind for Cn {
+    ghost ID = { 20035 };
+
+    ghost LEAST = { 218 };
+
+    ghost whole = { Prim.search rules };
+
+    const ID: u64 = 0x4E43;
+
+    const LEAST: usize = 218;
+}
+
 impl Cn {
-    pub const ID: u64 = 0x4E43;
-
-    pub const LEAST: usize = 218;
-
     pub const WRITTEN: usize = 228;
-
-    pub fn open(image: &[u8], at: usize) -> Block
-        ensures { result ≡ block_of at (opening cn_kind (image_of image.now) at) }
-    {
-        open_block(image, at, Self::ID, Self::LEAST)
-    }
 }
 
 // A conversion.
 #[derive(Clone, Copy)]
 pub struct Cc;
 
-impl Cc {
-    pub const ID: u64 = 0x4343;
+impl Kind for Cc {
+    ghost ID = { 17219 };
 
-    pub const LEAST: usize = 46;
+    ghost LEAST = { 46 };
 
-    pub fn open(image: &[u8], at: usize) -> Block
-        ensures { result ≡ block_of at (opening cc_kind (image_of image.now) at) }
-    {
-        open_block(image, at, Self::ID, Self::LEAST)
-    }
+    ghost whole = { Prim.search rules };
+
+    const ID: u64 = 0x4343;
+
+    const LEAST: usize = 46;
 }
 
 // A channel extension.
 #[derive(Clone, Copy)]
 pub struct Ce;
 
-impl Ce {
-    pub const ID: u64 = 0x4543;
+impl Kind for Ce {
+    ghost ID = { 17731 };
 
-    pub const LEAST: usize = 6;
+    ghost LEAST = { 6 };
 
-    pub fn open(image: &[u8], at: usize) -> Block
-        ensures { result ≡ block_of at (opening ce_kind (image_of image.now) at) }
-    {
-        open_block(image, at, Self::ID, Self::LEAST)
-    }
+    ghost whole = { Prim.search rules };
 
-    // The body behind a link, refused at the link's field.
-    pub fn body(image: &[u8], field: usize, link: usize) -> Step
-        ensures { result ≡ step_of (body_at ce_kind (image_of image.now) field (to_link link)) }
-    {
-        if link == 0 {
-            return Step::Go;
-        }
-        let opened = Ce::open(image, link);
-        let Block::Open(_b) = opened else {
-            return Step::Stop(fault(opened), field);
-        };
-        Step::Go
-    }
+    const ID: u64 = 0x4543;
+
+    const LEAST: usize = 6;
 }
 
 // A text.
 #[derive(Clone, Copy)]
 pub struct Tx;
 
-impl Tx {
-    pub const ID: u64 = 0x5854;
+impl Kind for Tx {
+    ghost ID = { 22612 };
 
-    pub const LEAST: usize = 4;
+    ghost LEAST = { 4 };
 
-    pub fn open(image: &[u8], at: usize) -> Block
-        ensures { result ≡ block_of at (opening tx_kind (image_of image.now) at) }
-    {
-        open_block(image, at, Self::ID, Self::LEAST)
-    }
+    ghost whole = { Prim.search rules };
 
-    // The body behind a link, refused at the link's field.
-    pub fn body(image: &[u8], field: usize, link: usize) -> Step
-        ensures { result ≡ step_of (body_at tx_kind (image_of image.now) field (to_link link)) }
-    {
-        if link == 0 {
-            return Step::Go;
-        }
-        let opened = Tx::open(image, link);
-        let Block::Open(_b) = opened else {
-            return Step::Stop(fault(opened), field);
-        };
-        Step::Go
-    }
+    const ID: u64 = 0x5854;
+
+    const LEAST: usize = 4;
 }
 
 // Program data.
 #[derive(Clone, Copy)]
 pub struct Pr;
 
-impl Pr {
-    pub const ID: u64 = 0x5250;
+impl Kind for Pr {
+    ghost ID = { 21072 };
 
-    pub const LEAST: usize = 4;
+    ghost LEAST = { 4 };
 
-    pub fn open(image: &[u8], at: usize) -> Block
-        ensures { result ≡ block_of at (opening pr_kind (image_of image.now) at) }
+    ghost whole = { Prim.search rules };
+
+    const ID: u64 = 0x5250;
+
+    const LEAST: usize = 4;
+}
+
+// The identification, at 0. No link leads to it, it holds no size, and its identifiers have 8 bytes.
+#[derive(Clone, Copy)]
+pub struct Id;
+
+impl Id {
+    pub const ID: [u8; 8] = *b"MDF     ";
+    // That of a file that was not finalized.
+    pub const UNFINALIZED: [u8; 8] = *b"UnFinMF ";
+
+    pub const LEAST: usize = 64;
+
+    pub const WRITTEN: usize = 64;
+
+    pub fn open(image: &[u8]) -> Block
+        ensures { result ≡ ident_block image.now }
     {
-        open_block(image, at, Self::ID, Self::LEAST)
-    }
-
-    // The body behind a link, refused at the link's field.
-    pub fn body(image: &[u8], field: usize, link: usize) -> Step
-        ensures { result ≡ step_of (body_at pr_kind (image_of image.now) field (to_link link)) }
-    {
-        if link == 0 {
-            return Step::Go;
+        if image.len() < Self::LEAST {
+            return Block::Shut(Reason::NoMdf);
         }
-        let opened = Pr::open(image, link);
-        let Block::Open(_b) = opened else {
-            return Step::Stop(fault(opened), field);
-        };
-        Step::Go
+        if image.starts_with(&Self::ID) {
+            return Block::Open(Span {
+                at: 0,
+                size: Self::LEAST,
+            });
+        }
+        if image.starts_with(&Self::UNFINALIZED) {
+            return Block::Shut(Reason::Unfinalized);
+        }
+        Block::Shut(Reason::NoMdf)
     }
 }

@@ -3,53 +3,48 @@
 
 ghost use Rattle.std.specs.Prelude.{◌≡◌, ◌+◌, ◌≤◌};
 ghost use Rattle.answers.specs.Differences.{alone, channel_entries};
-ghost use Rattle.reading.specs.Steps.{AtChannels, channels_left};
+ghost use Rattle.reading.specs.Steps.{channels_left};
 ghost use Rattle.listing.specs.Listing.{Listed};
 
-use reading::{ChannelStep, Channels};
+use listing::Kind;
+use reading::Channels;
 
 // The channels that are left in one file, behind `at` bytes of a list. The item of a channel is one above its number.
-fn list_alone(out: &mut [u8], at: usize, image: &[u8], channels: Channels, group: usize) -> usize
-    requires { AtChannels image.now channels × (at ≤ 2147483648) }
-    ensures { Listed out.old out.new at result (alone 3 group (channels.index + 1) (channels_left image.now channels)) }
+fn list_alone(out: &mut [u8], at: usize, channels: Channels, group: usize) -> usize
+    requires { at ≤ 2147483648 }
+    ensures { Listed out.old out.new at result (alone 3 group (channels.entry.index + 1) (channels_left channels.entry)) }
 {
     let mut c = channels;
     let mut to = at;
+    // no `for`: it ends with the cursor, or where no list is longer
     while to <= 2147483647 {
-        let ChannelStep::Next(_x, n) = c.next(image) else {
+        let Some((_x, n)) = c.next() else {
             return to;
         };
-        to = listing::list_entry(out, to, 3, group, n.number(), 0);
+        to = listing::list_entry(out, to, Kind::GroupPart as usize, group, n.number(), 0);
         c = n;
     }
     to
 }
 
 // The channels that are left in both, side by side.
-pub fn list_channels(
-    out: &mut [u8],
-    at: usize,
-    a: &[u8],
-    x: Channels,
-    b: &[u8],
-    y: Channels,
-    group: usize,
-) -> usize
-    requires { AtChannels a.now x × AtChannels b.now y × (x.index ≡ y.index) × (at ≤ 2147483648) }
-    ensures { Listed out.old out.new at result (channel_entries group (x.index + 1) (channels_left a.now x) (channels_left b.now y)) }
+pub fn list_channels(out: &mut [u8], at: usize, x: Channels, y: Channels, group: usize) -> usize
+    requires { (x.index ≡ y.index) × (at ≤ 2147483648) }
+    ensures { Listed out.old out.new at result (channel_entries group (x.entry.index + 1) (channels_left x.entry) (channels_left y.entry)) }
 {
     let mut c = x;
     let mut d = y;
     let mut to = at;
+    // ends with either cursor, or where no list is longer
     while to <= 2147483647 {
-        let ChannelStep::Next(u, e) = c.next(a) else {
-            return list_alone(out, to, b, d, group);
+        let Some((u, e)) = c.next() else {
+            return list_alone(out, to, d, group);
         };
-        let ChannelStep::Next(v, f) = d.next(b) else {
-            return list_alone(out, to, a, c, group);
+        let Some((v, f)) = d.next() else {
+            return list_alone(out, to, c, group);
         };
-        let same = same_parts::same_channel(a, u, b, v);
-        to = listing::list_unless(out, to, same, 3, group, e.number());
+        let same = same_parts::same_channel(u, v);
+        to = listing::list_unless(out, to, same, Kind::GroupPart as usize, group, e.number());
         c = e;
         d = f;
     }

@@ -1,18 +1,18 @@
 -- Groups side by side, and those that one file alone has.
 -- Assumes nothing.
 use Prim.Native.Nat.{ℕ, suc, ◌+◌}
-use mathlib.Core.Path.{◌≡◌, refl, sym, ap, ◌∙◌}
+use mathlib.Core.Path.{◌≡◌, refl, sym, ap, ap₂, ◌∙◌}
 use mathlib.Core.Bool.{Bool, true, false}
 use mathlib.Core.List.{List, [], ◌∷◌, ◌++◌}
 use native.Mathlib.Numerals.{add-one}
 use Rattle.answers.specs.Readings.{Channel, Group}
 use Rattle.answers.specs.Differences.{entry, unless, same_own, alone, channel_entries, record_entries, group_entries, groups_alone, groups_entries}
 use Rattle.answers.proofs.Laws.{same_refl}
-use Rattle.reading.specs.Promise.{log_at, records_with}
+use Rattle.reading.specs.Promise.{Keyed, log_at, records_with}
 use Rattle.reading.specs.declared.Group.{Group as CursorGroup}
 use Rattle.reading.specs.declared.Groups.{Groups}
-use Rattle.reading.specs.Steps.{unsorted, key_of, ends_data_group, AtKeys, KeyStep, GroupStepIs}
-use Rattle.reading.specs.declared.GroupStep.TheVariants.{Next}
+use Rattle.reading.specs.Steps.{log_of, unsorted, key_of, ends_data_group, AtKeys, KeyStep, GroupStepIs}
+use Rattle.std.specs.Prelude.{Some}
 use Rattle.same_records.specs.Marks.{Told}
 use Rattle.same_records.proofs.Marks.{untold, told_as}
 use lib.ListN.{length}
@@ -70,27 +70,31 @@ both_next g h e f k = rw (e, f, k, add-one)
 -- ---- what is told of two data groups
 
 -- keys of the groups before a cursor
-pub record KeysBefore (image : List ℕ) (c : Groups) : Type 0 where
+pub record KeysBefore (c : Groups) : Type 0 where
   pub keys : List ℕ
-  pub stand : AtKeys image c keys
+  pub stand : AtKeys c keys
 
-pub keys_on : (image keys : List ℕ) (g : CursorGroup) (n : Groups) → KeyStep image keys g n → KeysBefore image n
-keys_on image keys g n s = go (unsorted image g) (ends_data_group n) refl refl
+pub keys_on : (keys : List ℕ) (g : CursorGroup) (n : Groups) → KeyStep keys g n → KeysBefore n
+keys_on keys g n s = go (unsorted g) (ends_data_group n) refl refl
   where
-    go : (t u : Bool) → unsorted image g ≡ t → ends_data_group n ≡ u → KeysBefore image n
+    go : (t u : Bool) → unsorted g ≡ t → ends_data_group n ≡ u → KeysBefore n
     go false u e f = record { keys = []; stand = (s.sorted e).1 }
-    go true false e f = record { keys = key_of image g ∷ keys; stand = (s.more e f).0 }
+    go true false e f = record { keys = key_of g ∷ keys; stand = (s.more e f).0 }
     go true true e f = record { keys = []; stand = (s.last e f).0 }
 
+-- the records of the data group of the group before a cursor, or of the next one
+abbrev pub log_before : Groups → List Keyed
+log_before c = log_at c.image.now c.index
+
 -- it is told of the next groups too where neither data group ends
-pub told_on : (a b ks ls marks : List ℕ) (g h : CursorGroup) (e f : Groups) (t u : Bool)
-    → KeyStep a ks g e
-    → KeyStep b ls h f
-    → Told t (log_at a g.index) (log_at b h.index) marks
-    → (t ≡ true → (unsorted a g ≡ true) × (unsorted b h ≡ true))
+pub told_on : (ks ls marks : List ℕ) (g h : CursorGroup) (e f : Groups) (t u : Bool)
+    → KeyStep ks g e
+    → KeyStep ls h f
+    → Told t (log_of g) (log_of h) marks
+    → (t ≡ true → (unsorted g ≡ true) × (unsorted h ≡ true))
     → (u ≡ true → (t ≡ true) × (ends_data_group e ≡ false) × (ends_data_group f ≡ false))
-    → Told u (log_at a e.index) (log_at b f.index) marks
-told_on a b ks ls marks g h e f t u x y told both on =
+    → Told u (log_before e) (log_before f) marks
+told_on ks ls marks g h e f t u x y told both on =
     record {
       same =
           λ z k m.
@@ -103,27 +107,27 @@ told_on a b ks ls marks g h e f t u x y told both on =
 
 -- ---- what is known before a pair of groups
 
-pub record Ahead (a b : List ℕ) (c d : Groups) (told : Bool) (marks : List ℕ) : Type 0 where
-  pub left : KeysBefore a c
-  pub right : KeysBefore b d
+pub record Ahead (c d : Groups) (told : Bool) (marks : List ℕ) : Type 0 where
+  pub left : KeysBefore c
+  pub right : KeysBefore d
   pub long : length marks ≡ 256
-  pub known : Told told (log_at a c.index) (log_at b d.index) marks
+  pub known : Told told (log_before c) (log_before d) marks
 
-pub first_ahead : {a b : List ℕ} {c d : Groups} {marks : List ℕ} → AtKeys a c [] → AtKeys b d [] → length marks ≡ 256 → Ahead a b c d false marks
+pub first_ahead : {c d : Groups} {marks : List ℕ} → AtKeys c [] → AtKeys d [] → length marks ≡ 256 → Ahead c d false marks
 first_ahead k l h = record { left = record { keys = []; stand = k }; right = record { keys = []; stand = l }; long = h; known = untold }
 
-module _ {a b : List ℕ} {c d : Groups} {told : Bool} {marks : List ℕ} (p : Ahead a b c d told marks) (g h : CursorGroup) (e f : Groups) (v : GroupStepIs a c (Next g e)) (w : GroupStepIs b d (Next h f)) where
+module _ {c d : Groups} {told : Bool} {marks : List ℕ} (p : Ahead c d told marks) (g h : CursorGroup) (e f : Groups) (v : GroupStepIs c (Some (g, e))) (w : GroupStepIs d (Some (h, f))) where
   -- of the groups themselves
-  pub known_here : Told told (log_at a g.index) (log_at b h.index) marks
-  known_here = told_as p.known (ap (log_at a) (sym v.2)) (ap (log_at b) (sym w.2))
+  pub known_here : Told told (log_of g) (log_of h) marks
+  known_here = told_as p.known (ap₂ log_at (sym v.0) (sym v.2)) (ap₂ log_at (sym w.0) (sym w.2))
 
   pub next_ahead : (t u : Bool) (marks₁ : List ℕ)
       → length marks₁ ≡ 256
-      → Told t (log_at a g.index) (log_at b h.index) marks₁
-      → (t ≡ true → (unsorted a g ≡ true) × (unsorted b h ≡ true))
+      → Told t (log_of g) (log_of h) marks₁
+      → (t ≡ true → (unsorted g ≡ true) × (unsorted h ≡ true))
       → (u ≡ true → (t ≡ true) × (ends_data_group e ≡ false) × (ends_data_group f ≡ false))
-      → Ahead a b e f u marks₁
+      → Ahead e f u marks₁
   next_ahead t u marks₁ long k both on =
       let x = v.5 p.left.keys p.left.stand in
       let y = w.5 p.right.keys p.right.stand in
-      record { left = keys_on a p.left.keys g e x; right = keys_on b p.right.keys h f y; long = long; known = told_on a b p.left.keys p.right.keys marks₁ g h e f t u x y k both on }
+      record { left = keys_on p.left.keys g e x; right = keys_on p.right.keys h f y; long = long; known = told_on p.left.keys p.right.keys marks₁ g h e f t u x y k both on }

@@ -3,78 +3,57 @@
 
 ghost use Rattle.std.specs.Prelude.{◌≡◌, true, false, [], ◌≤◌};
 ghost use Rattle.answers.specs.Differences.{group_entries, groups_alone, groups_entries};
-ghost use Rattle.reading.specs.Steps.{AtGroup, AtGroups, AtKeys, the_group, groups_left};
+ghost use Rattle.reading.specs.Steps.{AtKeys, the_group, groups_left};
 ghost use Rattle.listing.specs.Listing.{Listed};
 
-use reading::{Group, GroupStep, Groups};
+use listing::Kind;
+use reading::{Group, Groups};
 
 // Two groups that have the same number, behind `at` bytes of a list. Records that are known to be the same are not gone through.
-fn list_group(
-    out: &mut [u8],
-    at: usize,
-    a: &[u8],
-    g: Group,
-    b: &[u8],
-    h: Group,
-    number: usize,
-    known: bool,
-) -> usize
-    requires { AtGroup a.now g × AtGroup b.now h × (at ≤ 2147483648) × (known ≡ true → (the_group a.now g).records ≡ (the_group b.now h).records) }
-    ensures { Listed out.old out.new at result (group_entries number (the_group a.now g) (the_group b.now h)) }
+fn list_group(out: &mut [u8], at: usize, g: Group, h: Group, number: usize, known: bool) -> usize
+    requires { (at ≤ 2147483648) × (known ≡ true → (the_group g).records ≡ (the_group h).records) }
+    ensures { Listed out.old out.new at result (group_entries number (the_group g.entry) (the_group h.entry)) }
 {
-    let same = same_parts::same_own(a, g, b, h);
-    let own_end = listing::list_unless(out, at, same, 3, number, 0);
-    let x = g.channels(a);
-    let y = h.channels(b);
-    let channels_end = list_channels::list_channels(out, own_end, a, x, b, y, number);
+    let same = same_parts::same_own(g, h);
+    let own_end = listing::list_unless(out, at, same, Kind::GroupPart as usize, number, 0);
+    let x = g.channels();
+    let y = h.channels();
+    let channels_end = list_channels::list_channels(out, own_end, x, y, number);
     if known {
         return channels_end;
     }
-    list_records::list_records(out, channels_end, a, g, b, h, number)
+    list_records::list_records(out, channels_end, g, h, number)
 }
 
 // The groups that are left in one file, behind `at` bytes of a list.
-fn list_alone(out: &mut [u8], at: usize, image: &[u8], groups: Groups) -> usize
-    requires { AtGroups image.now groups × (at ≤ 2147483648) }
-    ensures { Listed out.old out.new at result (groups_alone groups.index (groups_left image.now groups)) }
+fn list_alone(out: &mut [u8], at: usize, groups: Groups) -> usize
+    requires { at ≤ 2147483648 }
+    ensures { Listed out.old out.new at result (groups_alone groups.entry.index (groups_left groups.entry)) }
 {
     let mut c = groups;
     let mut to = at;
+    // no `for`: it ends with the cursor, or where no list is longer
     while to <= 2147483647 {
-        let GroupStep::Next(_g, n) = c.next(image) else {
+        let Some((_g, n)) = c.next() else {
             return to;
         };
-        to = listing::list_entry(out, to, 2, c.number(), 0, 0);
+        to = listing::list_entry(out, to, Kind::GroupAlone as usize, c.number(), 0, 0);
         c = n;
     }
     to
 }
 
-// Whether a data group begins in both files. It only saves time: what is marked is right for any answer.
-fn both(x: bool, y: bool) -> bool {
-    if x {
-        return y;
-    }
-    false
-}
-
-// What was told of two data groups holds on where neither has ended.
+// What was told of two data groups holds on where neither has ended. One value with its promise, so that the loop's invariant is shown once.
 fn holds_on(told: bool, left: bool, right: bool) -> bool
     ensures { result ≡ true → (told ≡ true) × (left ≡ false) × (right ≡ false) }
 {
-    if left {
-        return false;
-    }
-    if right {
-        return false;
-    }
-    told
+    told && !left && !right
 }
 
 // The groups of both files, side by side.
-pub fn list_groups(out: &mut [u8], at: usize, a: &[u8], x: Groups, b: &[u8], y: Groups) -> usize
-    requires { AtGroups a.now x × AtGroups b.now y × (x.index ≡ y.index) × (at ≤ 2147483648) × AtKeys a.now x [] × AtKeys b.now y [] }
-    ensures { Listed out.old out.new at result (groups_entries x.index (groups_left a.now x) (groups_left b.now y)) }
+pub fn list_groups(out: &mut [u8], at: usize, x: Groups, y: Groups) -> usize
+    requires { (x.index ≡ y.index) × (at ≤ 2147483648) × AtKeys x [] × AtKeys y [] }
+    ensures { Listed out.old out.new at result (groups_entries x.entry.index (groups_left x.entry) (groups_left y.entry)) }
 {
     let mut marks = [0u8; 256];
     let mut begins = true;
@@ -82,19 +61,21 @@ pub fn list_groups(out: &mut [u8], at: usize, a: &[u8], x: Groups, b: &[u8], y: 
     let mut c = x;
     let mut d = y;
     let mut to = at;
+    // ends with either cursor, or where no list is longer
     while to <= 2147483647 {
-        let GroupStep::Next(g, e) = c.next(a) else {
-            return list_alone(out, to, b, d);
+        let Some((g, e)) = c.next() else {
+            return list_alone(out, to, d);
         };
-        let GroupStep::Next(h, f) = d.next(b) else {
-            return list_alone(out, to, a, c);
+        let Some((h, f)) = d.next() else {
+            return list_alone(out, to, c);
         };
-        let tells = same_records::mark(&mut marks, a, g, b, h, begins, told);
-        let known = same_records::known_same(&marks, a, g, b, h, tells);
-        to = list_group(out, to, a, g, b, h, c.number(), known);
+        let tells = same_records::mark(&mut marks, g, h, begins, told);
+        let known = same_records::known_same(&marks, g, h, tells);
+        to = list_group(out, to, g, h, c.number(), known);
         let left = e.ends_data_group();
         let right = f.ends_data_group();
-        begins = both(left, right);
+        // only saves time: what is marked is right for any answer
+        begins = left && right;
         told = holds_on(tells, left, right);
         c = e;
         d = f;

@@ -1,17 +1,18 @@
 -- Laws of lists of entries.
 -- Assumes nothing.
-use Prim.Native.Nat.{ℕ, zero, suc, ◌+◌, ◌*◌, ◌-◌, ◌≤◌, ◌<◌}
+use Prim.Native.Nat.{ℕ, zero, suc, ◌+◌, ◌*◌, ◌-◌, ◌≤◌, ◌<◌, min}
 use mathlib.Core.Path.{◌≡◌, refl, sym, ap, ◌∙◌}
 use mathlib.Core.Bool.{Bool, true, false}
 use mathlib.Core.List.{List, [], ◌∷◌, ◌++◌, map, append_assoc, append-nil}
 use native.Mathlib.Omega.{arith}
+use native.Mathlib.Numerals.{add-one}
 use lib.Dec.{leb}
 use lib.ListN.{length, length-append}
 use borrow.Author.Tests.{leb-true, leb-false, le-leb, lt-leb}
 use Rattle.answers.specs.Readings.{join}
 use Rattle.answers.specs.Differences.{Entry, entry, entry_bytes, alone}
 use Rattle.write.specs.Write.{Wrote, wrote_none, wrote_as, wrote_length, then}
-use Rattle.listing.specs.Listing.{capped, entry_parts, entries_bytes, numbered, Listed, Listing}
+use Rattle.listing.specs.Listing.{capped, entries_bytes, numbered, Listed, Listing}
 
 -- ---- lengths
 
@@ -30,6 +31,9 @@ by_length {P} n f g = go (leb n 2147483647) refl
     go : (t : Bool) → leb n 2147483647 ≡ t → P
     go true e = f (leb-true n 2147483647 e)
     go false e = g (leb-false n 2147483647 e)
+
+pub capped_least : (n : ℕ) → min n 2147483648 ≡ capped n
+capped_least n = by_length n (λ h. omega (arith, capped_exact n h)) (λ h. omega (arith, capped_over n h))
 
 capped_near : (n : ℕ) → capped n ≤ 2147483648
 capped_near n = by_length n (λ h. omega (arith, capped_exact n h)) (λ h. omega (arith, capped_over n h))
@@ -69,9 +73,9 @@ entries_none : entries_bytes [] ≡ []
 unfolding entries_bytes
 entries_none = refl
 
-entries_one : (kind group item byte : ℕ) → entries_bytes (entry kind group item byte ∷ []) ≡ entry_parts kind group item byte
+entries_one : (e : Entry) → entries_bytes (e ∷ []) ≡ entry_bytes e
 unfolding entries_bytes
-entries_one kind group item byte = append-nil (entry_bytes (entry kind group item byte))
+entries_one e = append-nil (entry_bytes e)
 
 -- ---- entries one behind the other
 
@@ -124,12 +128,12 @@ listed_long at es to e h =
       wrote = λ room few. absurd (omega (arith, capped_exact (at + 16 * length es) few));
     }
 
-pub listed_one : {out out₁ : List ℕ} (at to : ℕ) (kind group item byte : ℕ) → to ≡ capped (at + 16) → Wrote out out₁ at (entry_parts kind group item byte) → Listed out out₁ at to (entry kind group item byte ∷ [])
-listed_one at to kind group item byte e w =
+pub listed_one : {out out₁ : List ℕ} (at to : ℕ) (one : Entry) → to ≡ capped (at + 16) → Wrote out out₁ at (entry_bytes one) → Listed out out₁ at to (one ∷ [])
+listed_one at to one e w =
     record {
       kept = wrote_length w;
       reached = e;
-      wrote = λ room few. wrote_as w refl (sym (entries_one kind group item byte));
+      wrote = λ room few. wrote_as w refl (sym (entries_one one));
     }
 
 -- ---- a loop that lists
@@ -181,12 +185,11 @@ pub numbered_none : (kind g i : ℕ) → numbered kind g i 0 ≡ []
 unfolding numbered
 numbered_none kind g i = refl
 
-pub numbered_next : (kind g item i n : ℕ) → i < n → numbered kind g (item + i) (n - i) ≡ (entry kind g (item + i) 0 ∷ []) ++ numbered kind g (item + (i + 1)) (n - (i + 1))
+pub numbered_next : (kind g i end : ℕ) → i < end → numbered kind g i (end - i) ≡ (entry kind g i 0 ∷ []) ++ numbered kind g (i + 1) (end - (i + 1))
 unfolding numbered
-numbered_next kind g item i n h =
-    let k : n - i ≡ suc (n - (i + 1)) = omega arith in
-    let j : suc (item + i) ≡ item + (i + 1) = omega arith in
-    rw (k, j)
+numbered_next kind g i end h =
+    let k : end - i ≡ suc (end - (i + 1)) = omega arith in
+    rw (k, add-one)
 
 pub alone_numbered : {A : Type 0} (kind g i : ℕ) (xs : List A) → alone kind g i xs ≡ numbered kind g i (length xs)
 unfolding alone numbered

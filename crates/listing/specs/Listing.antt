@@ -1,17 +1,13 @@
 -- Entries listed from a place on, and the laws by which lists compose.
 -- Assumes nothing.
 use Rattle.std.specs.Prelude.{ℕ, zero, suc, ◌+◌, ◌*◌, ◌≤◌, ◌≡◌, cond, List, [], ◌∷◌, ◌++◌, map, leb, length}
-use Rattle.answers.specs.Readings.{bytes_of, join}
+use Rattle.answers.specs.Readings.{join}
 use Rattle.answers.specs.Differences.{Entry, entry, entry_bytes}
 use Rattle.write.specs.Write.{Wrote}
 
 -- a length as far as it is needed: exact up to that of the longest list
 unfoldable pub capped : ℕ → ℕ
 capped n = cond (leb n 2147483647) n 2147483648
-
--- the bytes of an entry by its four numbers, so that the function that gives them needs no proof
-abbrev pub entry_parts : ℕ → ℕ → ℕ → ℕ → List ℕ
-entry_parts kind group item byte = bytes_of 2 kind ++ bytes_of 2 0 ++ bytes_of 4 group ++ bytes_of 4 item ++ bytes_of 4 byte
 
 unfoldable pub entries_bytes : List Entry → List ℕ
 entries_bytes es = join (map entry_bytes es)

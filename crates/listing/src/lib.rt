@@ -2,40 +2,42 @@
 #![tactic(auto)]
 
 ghost use Rattle.std.specs.Prelude.{◌≡◌, [], ◌∷◌, ◌+◌, ◌≤◌, ◌<◌};
-ghost use Rattle.answers.specs.Differences.{entry, unless};
-ghost use Rattle.listing.specs.Listing.{capped, entry_parts, Listed, numbered};
+ghost use Rattle.answers.specs.Differences.{entry, entry_bytes, unless};
+ghost use Rattle.listing.specs.Listing.{capped, Listed, numbered};
 
-// A length as far as it is needed: no list is longer than 2,147,483,647 bytes.
+// What an entry tells of, with the number that it has for it.
+#[derive(Clone, Copy, PartialEq, Eq, Debug)]
+pub enum Kind {
+    // a part of the file outside its groups
+    FilePart = 1,
+    // a group that one file alone has
+    GroupAlone = 2,
+    // the own fields of a group that both have, or one of its channels
+    GroupPart = 3,
+    // a record that both have
+    Record = 4,
+    // a record that one file alone has, of a group that both have
+    RecordAlone = 5,
+}
+
+// No list is longer.
+const LONGEST: usize = 2147483647;
+
+// A length as far as it is needed.
 fn cap(n: usize) -> usize
     ensures { result ≡ capped n }
 {
-    if n <= 2147483647 {
-        return n;
-    }
-    2147483648
+    n.min(LONGEST + 1)
 }
 
 fn entry_bytes(kind: usize, group: usize, item: usize, byte: usize) -> [u8; 16]
-    ensures { result ≡ entry_parts kind group item byte }
+    ensures { result ≡ entry_bytes (entry kind group item byte) }
 {
-    [
-        (kind % 256) as u8,
-        (kind / 256 % 256) as u8,
-        0,
-        0,
-        (group % 256) as u8,
-        (group / 256 % 256) as u8,
-        (group / 256 / 256 % 256) as u8,
-        (group / 256 / 256 / 256 % 256) as u8,
-        (item % 256) as u8,
-        (item / 256 % 256) as u8,
-        (item / 256 / 256 % 256) as u8,
-        (item / 256 / 256 / 256 % 256) as u8,
-        (byte % 256) as u8,
-        (byte / 256 % 256) as u8,
-        (byte / 256 / 256 % 256) as u8,
-        (byte / 256 / 256 / 256 % 256) as u8,
-    ]
+    let [k0, k1, ..] = kind.to_le_bytes();
+    let [g0, g1, g2, g3, ..] = group.to_le_bytes();
+    let [i0, i1, i2, i3, ..] = item.to_le_bytes();
+    let [b0, b1, b2, b3, ..] = byte.to_le_bytes();
+    [k0, k1, 0, 0, g0, g1, g2, g3, i0, i1, i2, i3, b0, b1, b2, b3]
 }
 
 // One entry behind `at` bytes; gives the length with it.
@@ -51,11 +53,9 @@ pub fn list_entry(
     ensures { Listed out.old out.new at result (entry kind group item byte ∷ []) }
 {
     let end = at + 16;
-    if out.len() < end {
-        return cap(end);
+    if end <= out.len() {
+        write::put_all(out, at, &entry_bytes(kind, group, item, byte));
     }
-    let block = entry_bytes(kind, group, item, byte);
-    write::put_all(out, at, &block);
     cap(end)
 }
 
@@ -90,17 +90,12 @@ pub fn list_numbered(
     ensures { Listed out.old out.new at result (numbered kind group item n) }
 {
     let end = cap(at + 16 * n);
-    if 2147483647 < end {
-        return end;
-    }
-    if out.len() < end {
+    if LONGEST < end || out.len() < end {
         return end;
     }
     let mut to = at;
-    let mut i: usize = 0;
-    while i < n {
-        to = list_entry(out, to, kind, group, item + i, 0);
-        i += 1;
+    for i in item..item + n {
+        to = list_entry(out, to, kind, group, i, 0);
     }
     to
 }

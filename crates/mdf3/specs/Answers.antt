@@ -1,9 +1,11 @@
 -- What the C calls hand back: a number, and 32 bytes, four little-endian numbers of 64 bits.
 -- docs/DECISIONS.md, 50. Assumes nothing.
-use Rattle.std.specs.Prelude.{ℕ, List, ◌++◌, Float}
+use Rattle.std.specs.Prelude.{ℕ, List, ◌++◌, Float, Result, Ok, Err}
 use Rattle.std.proofs.Math.Option.{Option, none, some}
 use Rattle.std.specs.Float.{binary64}
 use Rattle.std.specs.Float.Ieee.{to_bits}
+use Rattle.refusal.specs.declared.Refusal.{Refusal}
+use Rattle.refusal.specs.Refused.{number_of}
 use Rattle.answers.specs.Readings.{bytes_of}
 use Rattle.answers.specs.Outcomes.{Outcome, check_outcome, copy_outcome, compare_outcome}
 use Rattle.answers.specs.Samples.{Stored, unsigned, signed, single, double, part, twos, sample_outcome, physical_outcome}
@@ -11,6 +13,15 @@ use Rattle.answers.specs.Samples.{Stored, unsigned, signed, single, double, part
 -- place, value, length, kind; what does not apply is 0
 abbrev pub answer_bytes : ℕ → ℕ → ℕ → ℕ → List ℕ
 answer_bytes place value size kind = bytes_of 8 place ++ bytes_of 8 value ++ bytes_of 8 size ++ bytes_of 8 kind
+
+-- a result by its number, and by its value's bytes or its place
+abbrev pub number_given : Result (List ℕ) Refusal → ℕ
+number_given (Ok bytes) = 0
+number_given (Err e) = number_of e.reason
+
+abbrev pub answer_given : Result (List ℕ) Refusal → List ℕ
+answer_given (Ok bytes) = bytes
+answer_given (Err e) = answer_bytes e.place 0 0 0
 
 -- check gives a place and nothing else
 unfoldable pub check_number : List ℕ → ℕ

@@ -5,36 +5,29 @@ ghost use Rattle.std.specs.Prelude.{◌≡◌, ◌++◌, ◌≤◌, length, drop
 ghost use Rattle.answers.specs.Outcomes.{program_outcome, program_output};
 ghost use Rattle.copy.specs.Copying.{outcome};
 
-use copy::Copied;
+use refusal::{Reason, Refusal};
 
 // The copy of an image that is not too long for the program.
-fn copy_small(image: &[u8], out: &mut [u8]) -> Copied
+fn copy_small(image: &[u8], out: &mut [u8]) -> Result<usize, Refusal>
     ensures { (outcome result ≡ (program_outcome image.now out.old).given) × (out.new ≡ (program_outcome image.now out.old).memory) }
 {
     if 32768 < image.len() {
-        return Copied::Refused(1, 0);
+        return Err(Reason::TooLong.at(0));
     }
     copy::copy(image, out)
-}
-
-fn wide(number: u32) -> u64
-    ensures { result ≡ number }
-{
-    number as u64
 }
 
 // What the program writes, at the start of the output: the copy, or one line. The answer is its length.
 fn output(image: &[u8], out: &mut [u8; 32768]) -> usize
     ensures { (out.new ≡ program_output image.now ++ drop result out.old) × (result ≡ length (program_output image.now)) × (result ≤ 32768) }
 {
-    let copied = copy_small(image, out);
-    match copied {
-        Copied::Done(n) => {
-            return n;
-        }
-        Copied::Refused(number, place) => {
-            return line::put_line(out, wide(number), place as u64);
-        }
+    match copy_small(image, out) {
+        Ok(n) => n,
+        Err(refusal) => line::put_line(
+            out,
+            u64::from(refusal.reason.number()),
+            refusal.place as u64,
+        ),
     }
 }
 

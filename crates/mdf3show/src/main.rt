@@ -2,11 +2,7 @@
 // records; a line for each sample, and one for its part.
 #![tactic(auto)]
 
-use sample::{SampleAnswer, SampleValue};
-
-fn wide(number: u32) -> u64 {
-    number as u64
-}
+use sample::SampleValue;
 
 // The bits of a 32-bit float as a 64-bit one, which can hold it.
 fn widened(x: f32) -> u64 {
@@ -31,14 +27,14 @@ fn show_value(v: SampleValue) {
         SampleValue::Signed(n) => line(2, floats::double_bits(floats::of_signed(n)), 0),
         SampleValue::Single(x) => line(3, widened(x), 0),
         SampleValue::Double(x) => line(4, floats::double_bits(x), 0),
-        SampleValue::Part(at, n) => line(5, at as u64, n as u64),
+        SampleValue::Part(span) => line(5, span.at as u64, span.size as u64),
     }
 }
 
 fn show(image: &[u8], group: usize, channel: usize, record: usize) {
     match sample::sample(image, group, channel, record) {
-        SampleAnswer::Value(v) => show_value(v),
-        SampleAnswer::Refused(number, place) => line(0, wide(number), place as u64),
+        Ok(v) => show_value(v),
+        Err(e) => line(0, u64::from(e.reason.number()), e.place as u64),
     }
     let part = sample::part(image, group, channel, record);
     io::print_decimal(1, part.len() as u64);

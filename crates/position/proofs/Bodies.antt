@@ -15,6 +15,7 @@ use Rattle.spec.proofs.Answers.{stop}
 use Rattle.spec.proofs.Opens.{open_gives}
 use Rattle.image.specs.declared.Span.{Span}
 use Rattle.image.specs.declared.Block.TheVariants.{Shut}
+use Rattle.refusal.specs.declared.Reason.{Reason}
 use Rattle.image.specs.Spans.{block_of, block_in, Inside}
 use Rattle.image.proofs.Fields.{block_length}
 use Rattle.image.proofs.Fields.{drop_take as inner-take}
@@ -65,7 +66,7 @@ module _ (k : Kind) (image : List ℕ) where
   behind_none l e = rw e
 
   module _ (l : ℕ) (h : l ≡ 0 → ⊥) where
-    pub behind_shut : {n : ℕ} → Shut n ≡ block_of l (opening k (image_of image) l) → none ≡ body_behind k image l
+    pub behind_shut : {r : Reason} → Shut r ≡ block_of l (opening k (image_of image) l) → none ≡ body_behind k image l
     unfolding body_at body_behind
     behind_shut e = rw (not_nil l h) (sym (ap body_in (stop _ (open_shut k body_of (image_of image) 0 l e))))
 

@@ -12,6 +12,7 @@ use Rattle.spec.specs.Walk.{conversion_at, channel_at, channel_list}
 use Rattle.spec.proofs.Answers.{stop, Gives, gives, bind, anything}
 use Rattle.image.specs.declared.Span.{Span}
 use Rattle.image.specs.declared.Block.TheVariants.{Shut}
+use Rattle.refusal.specs.declared.Reason.{Reason}
 use Rattle.image.specs.Spans.{block_of, block_in, opened_as}
 use Rattle.image.proofs.Blocks.{not_nil, Stands, open_shut, open_open}
 use Rattle.position.proofs.Lists.{self, gives_step, not_both}
@@ -57,7 +58,7 @@ module _ (image : Image) where
   no_channels_lem (suc left) size field l e h = let h' = rw e at h in cc
 
   module _ (size field l : ℕ) (h : l ≡ 0 → ⊥) where
-    pub channel_opens : (left : ℕ) {cs : List FoundChannel} → channel_list image left size field (to_link l) ≡ accepted cs → {n : ℕ} → Shut n ≡ block_of l (opening cn_kind image l) → ⊥
+    pub channel_opens : (left : ℕ) {cs : List FoundChannel} → channel_list image left size field (to_link l) ≡ accepted cs → {r : Reason} → Shut r ≡ block_of l (opening cn_kind image l) → ⊥
     unfolding channel_list
     channel_opens zero e s = not_both (rw (not_nil l h) at e) refl
     channel_opens (suc left) e s = not_both (rw (not_nil l h) at e) (stop _ (open_shut cn_kind read_cn image field l s))

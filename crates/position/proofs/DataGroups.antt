@@ -15,6 +15,7 @@ use lib.ListN.{length}
 use Rattle.spec.proofs.Answers.{stop, Gives, gives, bind, test, anything}
 use Rattle.image.specs.declared.Span.{Span}
 use Rattle.image.specs.declared.Block.TheVariants.{Shut}
+use Rattle.refusal.specs.declared.Reason.{Reason}
 use Rattle.image.specs.Spans.{block_of, block_in, opened_as}
 use Rattle.image.proofs.Blocks.{not_nil, Stands, open_shut, open_open}
 use Rattle.position.specs.Position.{DataGroupFound}
@@ -63,7 +64,7 @@ module _ (image : List ℕ) where
           onwards = rw one e₃;
         }))
 
-    pub data_group_opens : (left : ℕ) {ds : List FoundDataGroup} → data_group_list (image_of image) left gl cl field (to_link l) ≡ accepted ds → {n : ℕ} → Shut n ≡ block_of l (opening dg_kind (image_of image) l) → ⊥
+    pub data_group_opens : (left : ℕ) {ds : List FoundDataGroup} → data_group_list (image_of image) left gl cl field (to_link l) ≡ accepted ds → {r : Reason} → Shut r ≡ block_of l (opening dg_kind (image_of image) l) → ⊥
     unfolding data_group_list
     data_group_opens zero e s = not_both (rw (not_nil l h) at e) refl
     data_group_opens (suc left) e s = not_both (rw (not_nil l h) at e) (stop _ (open_shut dg_kind read_dg (image_of image) field l s))

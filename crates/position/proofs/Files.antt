@@ -19,6 +19,7 @@ use Rattle.spec.specs.Call.{Outcome, outcome_of, check_outcome}
 use Rattle.spec.proofs.Answers.{stop, Gives, gives, bind, test, anything}
 use Rattle.image.specs.declared.Span.{Span}
 use Rattle.image.specs.declared.Block.TheVariants.{Shut}
+use Rattle.refusal.specs.declared.Reason.{Reason}
 use Rattle.image.specs.Spans.{block_of, block_in, Holds}
 use Rattle.image.proofs.Blocks.{Stands, open_shut, open_open}
 use Rattle.position.specs.Parts.{image_reading, body_behind}
@@ -29,7 +30,7 @@ use Rattle.position.proofs.Bodies.{behind, field_bytes, field_zeros}
 module _ (image : List ℕ) where
   -- ---- the header
 
-  shut_gives : {n : ℕ} → Shut n ≡ block_of 64 (opening hd_kind (image_of image) 64) → Gives (walk image) (λ _. ⊥)
+  shut_gives : {r : Reason} → Shut r ≡ block_of 64 (opening hd_kind (image_of image) 64) → Gives (walk image) (λ _. ⊥)
   unfolding walk file_from
   shut_gives s =
       bind _ (anything _) λ _ _.
@@ -84,7 +85,7 @@ module _ (image : List ℕ) where
   unfolding check_outcome reads
   rejected_reading e = refused_of (walk image) e
 
-  pub header_opens : outcome_of (accepted tt) ≡ check_outcome image → {n : ℕ} → Shut n ≡ block_of 64 (opening hd_kind (image_of image) 64) → ⊥
+  pub header_opens : outcome_of (accepted tt) ≡ check_outcome image → {r : Reason} → Shut r ≡ block_of 64 (opening hd_kind (image_of image) 64) → ⊥
   header_opens e s = let f = passed_file e in (shut_gives s).given f.0 f.1
 
   pub file_stands : outcome_of (accepted tt) ≡ check_outcome image → (hd : Span) → Stands hd_kind (image_of image) 64 hd → FileStands image hd

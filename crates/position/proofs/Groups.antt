@@ -14,6 +14,7 @@ use Rattle.spec.specs.Walk.{channel_list, group_list, id_allowed}
 use Rattle.spec.proofs.Answers.{stop, Gives, gives, gives_none, bind, test, anything}
 use Rattle.image.specs.declared.Span.{Span}
 use Rattle.image.specs.declared.Block.TheVariants.{Shut}
+use Rattle.refusal.specs.declared.Reason.{Reason}
 use Rattle.image.specs.Spans.{block_of, block_in, opened_as}
 use Rattle.image.proofs.Blocks.{not_nil, Stands, open_shut, open_open}
 use Rattle.position.proofs.Lists.{self, gives_step, not_both}
@@ -56,11 +57,11 @@ module _ (image : Image) where
         bind _ (self _) λ more e₃.
         gives _ (record { group = record { block = opened_as (read_cg image.version) image.bytes b; comment = comment; channels = channels }; more = more; is = refl; block = refl; allowed = t; comment_field = l + 12; comment = e₁; channels_left = cl; channels_field = l + 8; channels = e₂; left = left; less = omega arith; channels_behind = _; field = l + 4; onwards = e₃ }))
 
-    shut_gives : (left cl : ℕ) → {n : ℕ} → Shut n ≡ block_of l (opening cg_kind image l) → Gives (group_list image (suc left) cl mode used field (some l)) (λ _. ⊥)
+    shut_gives : (left cl : ℕ) → {r : Reason} → Shut r ≡ block_of l (opening cg_kind image l) → Gives (group_list image (suc left) cl mode used field (some l)) (λ _. ⊥)
     unfolding group_list
     shut_gives left cl s = bind _ (anything _) λ _ _. record { given = λ gs e. not_both e (stop _ (open_shut cg_kind (read_cg image.version) image field l s)) }
 
-    pub group_opens : (left cl : ℕ) {gs : List FoundGroup} → group_list image left cl mode used field (to_link l) ≡ accepted gs → {n : ℕ} → Shut n ≡ block_of l (opening cg_kind image l) → ⊥
+    pub group_opens : (left cl : ℕ) {gs : List FoundGroup} → group_list image left cl mode used field (to_link l) ≡ accepted gs → {r : Reason} → Shut r ≡ block_of l (opening cg_kind image l) → ⊥
     unfolding group_list
     group_opens zero cl e s = not_both (rw (not_nil l h) at e) refl
     group_opens (suc left) cl e s = (shut_gives left cl s).given _ (rw (not_nil l h) at e)

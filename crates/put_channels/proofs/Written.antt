@@ -1,39 +1,37 @@
--- What holds of a body of the image as it is written.
+-- What holds of a body as it is written.
 -- Assumes nothing.
-use Prim.Native.Nat.{ℕ, ◌+◌, ◌≤◌}
+use Prim.Native.Nat.{ℕ}
 use mathlib.Core.Path.{◌≡◌, refl, sym, ◌∙◌, ap}
 use mathlib.Core.List.{List}
-use native.Mathlib.Omega.{arith}
-use lib.ListN.{length, take, drop, length-drop}
-use lib.Seq.{length-take-le}
+use lib.ListN.{length}
+use denote.Ref.{Bor}
 use Rattle.answers.specs.Readings.{target, Kind}
 use Rattle.answers.specs.Readings.{Body as ReadBody}
 use Rattle.answers.specs.Copies.{body_length, body_bytes, link_to}
-use Rattle.reading.specs.declared.Body.{Body}
-use Rattle.reading.specs.declared.Body.TheVariants.{Absent, Present}
+use Rattle.std.specs.Prelude.{Option, Some, None}
 use Rattle.answers.proofs.Laws.{length_body}
-use Rattle.reading.specs.Steps.{body_held, BodyInside, BodyIs}
-use Rattle.put_channels.specs.Written.{Small, written_length, written_link, written_bytes}
+use Rattle.reading.specs.Bodies.{body_held, BodyIs}
+use Rattle.put_channels.specs.Written.{written_length, written_link, written_bytes}
 
-part_length : (image : List ℕ) (at n : ℕ) → at + n ≤ length image → length (take n (drop at image)) ≡ n
-part_length image at n h = length-take-le n (drop at image) (rw length-drop (omega arith))
+held_length : (r : Option (Bor (List ℕ))) → written_length r ≡ body_length (body_held r)
+held_length None = refl
+held_length (Some b) = refl
 
-pub small_written : (image : List ℕ) (r : Body) → BodyInside image r → Small r
-small_written image Absent i = tt
-small_written image (Present at n) i = i.1
+held_link : (p : ℕ) (r : Option (Bor (List ℕ))) → written_link p r ≡ target (link_to p (body_held r))
+held_link p None = refl
+held_link p (Some b) = refl
 
-pub written_length_lem : (image : List ℕ) (r : Body) {b : ReadBody} → BodyIs image r b → written_length r ≡ body_length b
-written_length_lem image Absent h = ap body_length h.is
-written_length_lem image (Present at n) h = sym (ap (λ k. 4 + k) (part_length image at n h.inside.0)) ∙ ap body_length h.is
+pub written_length_lem : (r : Option (Bor (List ℕ))) {b : ReadBody} → BodyIs r b → written_length r ≡ body_length b
+written_length_lem r h = held_length r ∙ ap body_length h.is
 
-pub written_link_lem : (image : List ℕ) (p : ℕ) (r : Body) {b : ReadBody} → BodyIs image r b → written_link p r ≡ target (link_to p b)
-written_link_lem image p Absent h = ap (λ b. target (link_to p b)) h.is
-written_link_lem image p (Present at n) h = ap (λ b. target (link_to p b)) h.is
+pub written_link_lem : (p : ℕ) (r : Option (Bor (List ℕ))) {b : ReadBody} → BodyIs r b → written_link p r ≡ target (link_to p b)
+written_link_lem p r h = held_link p r ∙ ap (λ b. target (link_to p b)) h.is
 
-pub written_bytes_lem : (k : Kind) (image : List ℕ) (r : Body) {b : ReadBody} → BodyIs image r b → written_bytes k.first k.second image r ≡ body_bytes k b
-written_bytes_lem k image Absent h = ap (body_bytes k) h.is
-written_bytes_lem k image (Present at n) h = ap (body_bytes k) h.is
+pub written_bytes_lem : (k : Kind) (r : Option (Bor (List ℕ))) {b : ReadBody} → BodyIs r b → written_bytes k.first k.second r ≡ body_bytes k b
+written_bytes_lem k r h = same k (body_held r) ∙ ap (body_bytes k) h.is
+  where
+    same : (k : Kind) (b : ReadBody) → body_bytes (record { first = k.first; second = k.second; least = 0 }) b ≡ body_bytes k b
+    same k b = refl
 
-pub written_as : (a b : ℕ) (image : List ℕ) (r : Body) → BodyInside image r → length (written_bytes a b image r) ≡ written_length r
-written_as a b image r i =
-    length_body (record { first = a; second = b; least = 0 }) (body_held image r) ∙ sym (written_length_lem image r (record { is = refl; inside = i }))
+pub written_as : (a b : ℕ) (r : Option (Bor (List ℕ))) → length (written_bytes a b r) ≡ written_length r
+written_as a b r = length_body (record { first = a; second = b; least = 0 }) (body_held r) ∙ sym (held_length r)

@@ -5,33 +5,26 @@ use Rattle.answers.specs.Readings.{target, cc_kind, ce_kind, tx_kind}
 use Rattle.answers.specs.Readings.{Channel as ReadChannel}
 use Rattle.answers.specs.Copies.{link_to, body_length, body_bytes}
 use Rattle.blocks.specs.Blocks.{cn_bytes}
-use Rattle.reading.specs.Steps.{BodyInside, BodyIs}
+use Rattle.reading.specs.Bodies.{BodySmall, BodyIs}
 use Rattle.put_channels.specs.declared.Bodies.{Bodies}
 use Rattle.put_channels.specs.declared.Places.{Places}
 use Rattle.put_channels.specs.declared.Sum.{Sum}
-use Rattle.put_channels.specs.Written.{Small, written_length, written_bytes}
+use Rattle.put_channels.specs.Written.{written_length, written_bytes}
 
 -- the bodies of a channel
-pub record BodiesAre (image : List ℕ) (b : Bodies) (c : ReadChannel) : Type 0 where
-  pub conversion : BodyIs image b.conversion c.conversion
-  pub extension : BodyIs image b.extension c.extension
-  pub comment : BodyIs image b.comment c.comment
-  pub long : BodyIs image b.long c.long_name
-  pub display : BodyIs image b.display c.display_name
+pub record BodiesAre (b : Bodies) (c : ReadChannel) : Type 0 where
+  pub conversion : BodyIs b.conversion c.conversion
+  pub extension : BodyIs b.extension c.extension
+  pub comment : BodyIs b.comment c.comment
+  pub long : BodyIs b.long c.long_name
+  pub display : BodyIs b.display c.display_name
 
 pub record SmallBodies (b : Bodies) : Type 0 where
-  pub conversion : Small b.conversion
-  pub extension : Small b.extension
-  pub comment : Small b.comment
-  pub long : Small b.long
-  pub display : Small b.display
-
-pub record BodiesInside (image : List ℕ) (b : Bodies) : Type 0 where
-  pub conversion : BodyInside image b.conversion
-  pub extension : BodyInside image b.extension
-  pub comment : BodyInside image b.comment
-  pub long : BodyInside image b.long
-  pub display : BodyInside image b.display
+  pub conversion : BodySmall b.conversion
+  pub extension : BodySmall b.extension
+  pub comment : BodySmall b.comment
+  pub long : BodySmall b.long
+  pub display : BodySmall b.display
 
 -- where they stand behind a block at a place
 pub record PlacesAre (at : ℕ) (b : Bodies) (p : Places) : Type 0 where
@@ -43,9 +36,9 @@ pub record PlacesAre (at : ℕ) (b : Bodies) (p : Places) : Type 0 where
   pub end : p.end ≡ p.display + written_length b.display
   pub near : p.end < at + 400000
 
-unfoldable pub bodies_bytes : List ℕ → Bodies → List ℕ
-bodies_bytes image b =
-    (((written_bytes 67 67 image b.conversion ++ written_bytes 67 69 image b.extension) ++ written_bytes 84 88 image b.comment) ++ written_bytes 84 88 image b.long) ++ written_bytes 84 88 image b.display
+unfoldable pub bodies_bytes : Bodies → List ℕ
+bodies_bytes b =
+    (((written_bytes 67 67 b.conversion ++ written_bytes 67 69 b.extension) ++ written_bytes 84 88 b.comment) ++ written_bytes 84 88 b.long) ++ written_bytes 84 88 b.display
 
 -- the block at a place, with the link to the next one as a number
 unfoldable pub block_as : ℕ → ℕ → ReadChannel → List ℕ

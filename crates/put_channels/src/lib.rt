@@ -5,43 +5,38 @@ ghost use Rattle.std.specs.Prelude.{◌≡◌, ◌+◌, ◌/◌, ◌%◌, ◌≤
 ghost use Rattle.write.specs.Write.{Wrote};
 ghost use Rattle.answers.specs.Copies.{link_to_first, channel_length, channels_length, channels_bytes};
 ghost use Rattle.answers.specs.Readings.{target};
-ghost use Rattle.reading.specs.Steps.{BodyInside, AtChannels, AtChannel, channels_left, the_channel};
-ghost use Rattle.put_channels.specs.Written.{Small, written_length, written_link, written_bytes};
-ghost use Rattle.put_channels.specs.Channels.{BodiesAre, BodiesInside, SmallBodies, PlacesAre, bodies_bytes, block_as, channel_as, SumIs};
+ghost use Rattle.reading.specs.Bodies.{BodySmall};
+ghost use Rattle.reading.specs.Steps.{channels_left, the_channel};
+ghost use Rattle.put_channels.specs.Written.{written_length, written_link, written_bytes};
+ghost use Rattle.put_channels.specs.Channels.{BodiesAre, SmallBodies, PlacesAre, bodies_bytes, block_as, channel_as, SumIs};
 
-use reading::{Body, Channel, ChannelStep, Channels};
+use blocks::{Cc, Ce, Kind, Tx};
+use reading::{Channel, Channels};
 
 // ---- bodies
 
-pub fn body_length(body: Body) -> usize
-    requires { Small body }
-    ensures { (result ≡ written_length body) × (result < 65536) }
+pub fn body_length(body: Option<&[u8]>) -> usize
+    requires { BodySmall body }
+    ensures { (result ≡ written_length body.entry) × (result < 65536) }
 {
-    let Body::Present(_at, n) = body else {
-        return 0;
-    };
-    4 + n
+    body.map_or(0, |b| 4 + b.len())
 }
 
 // The link to a body that stands at a place of the copy.
-pub fn body_link(body: Body, at: usize) -> usize
-    ensures { result ≡ written_link at body }
+pub fn body_link(body: Option<&[u8]>, at: usize) -> usize
+    ensures { result ≡ written_link at body.entry }
 {
-    let Body::Present(_from, _n) = body else {
-        return 0;
-    };
-    at
+    body.map_or(0, |_b| at)
 }
 
-// The block of a body, by its identifier.
-pub fn put_body(out: &mut [u8], at: usize, image: &[u8], body: Body, id: u64)
-    requires { BodyInside image.now body × (at + written_length body ≤ length out.old) }
-    ensures { Wrote out.old out.new at (written_bytes (id % 256) (id / 256 % 256) image.now body) }
+// The block of a body.
+pub fn put_body<K: Kind>(out: &mut [u8], at: usize, body: Option<&[u8]>)
+    requires { at + written_length body ≤ length out.old }
+    ensures { Wrote out.old out.new at (written_bytes (K.ID % 256) (K.ID / 256 % 256) body.entry) }
 {
-    let Body::Present(from, n) = body else {
-        return;
-    };
-    blocks::put_block(out, at, id, image, from, n);
+    if let Some(b) = body {
+        blocks::put_block::<K>(out, at, b);
+    }
 }
 
 // A length and a number of parts, added up as far as the longest copy needs.
@@ -54,24 +49,23 @@ pub struct Sum {
 // ---- a channel
 
 #[derive(Clone, Copy)]
-struct Bodies {
-    conversion: Body,
-    extension: Body,
-    comment: Body,
-    long: Body,
-    display: Body,
+struct Bodies<'a> {
+    conversion: Option<&'a [u8]>,
+    extension: Option<&'a [u8]>,
+    comment: Option<&'a [u8]>,
+    long: Option<&'a [u8]>,
+    display: Option<&'a [u8]>,
 }
 
-fn bodies_of(image: &[u8], x: Channel) -> Bodies
-    requires { AtChannel image.now x }
-    ensures { BodiesAre image.now result (the_channel image.now x) }
+fn bodies_of<'a>(x: Channel<'a>) -> Bodies<'a>
+    ensures { BodiesAre result (the_channel x.entry) }
 {
     Bodies {
-        conversion: x.conversion(image),
-        extension: x.extension(image),
-        comment: x.comment(image),
-        long: x.long_name(image),
-        display: x.display_name(image),
+        conversion: x.conversion(),
+        extension: x.extension(),
+        comment: x.comment(),
+        long: x.long_name(),
+        display: x.display_name(),
     }
 }
 
@@ -88,19 +82,14 @@ struct Places {
 // Where the bodies of a channel stand, its block at a place.
 fn places_of(at: usize, b: Bodies) -> Places
     requires { SmallBodies b × (at < 9223372036854775808) }
-    ensures { PlacesAre at b result }
+    ensures { PlacesAre at b.entry result }
 {
-    let conversion = b.conversion;
-    let extension = b.extension;
-    let comment = b.comment;
-    let long_name = b.long;
-    let display_name = b.display;
     let cc = at + 228;
-    let ce = cc + body_length(conversion);
-    let tx = ce + body_length(extension);
-    let long = tx + body_length(comment);
-    let display = long + body_length(long_name);
-    let end = display + body_length(display_name);
+    let ce = cc + body_length(b.conversion);
+    let tx = ce + body_length(b.extension);
+    let long = tx + body_length(b.comment);
+    let display = long + body_length(b.long);
+    let end = display + body_length(b.display);
     Places {
         cc,
         ce,
@@ -111,44 +100,28 @@ fn places_of(at: usize, b: Bodies) -> Places
     }
 }
 
-fn channel_length(image: &[u8], x: Channel) -> usize
-    requires { AtChannel image.now x }
-    ensures { (result ≡ channel_length (the_channel image.now x)) × (result < 400000) }
+fn channel_length(x: Channel) -> usize
+    ensures { (result ≡ channel_length (the_channel x.entry)) × (result < 400000) }
 {
-    let p = places_of(0, bodies_of(image, x));
-    p.end
+    places_of(0, bodies_of(x)).end
 }
 
 // The block of a channel, its bodies at their places.
-fn put_channel_block(
-    out: &mut [u8],
-    at: usize,
-    image: &[u8],
-    x: Channel,
-    b: Bodies,
-    p: Places,
-    next: usize,
-)
-    requires { AtChannel image.now x × BodiesAre image.now b (the_channel image.now x) × PlacesAre at b p × (at + 228 ≤ length out.old) }
-    ensures { Wrote out.old out.new at (block_as at next (the_channel image.now x)) }
+fn put_channel_block(out: &mut [u8], at: usize, x: Channel, b: Bodies, p: Places, next: usize)
+    requires { BodiesAre b (the_channel x) × PlacesAre at b p × (at + 228 ≤ length out.old) }
+    ensures { Wrote out.old out.new at (block_as at next (the_channel x.entry)) }
 {
-    let carried = x.fields(image);
-    let conversion = b.conversion;
-    let extension = b.extension;
-    let comment = b.comment;
-    let long = b.long;
-    let display = b.display;
-    let cc = body_link(conversion, p.cc);
-    let ce = body_link(extension, p.ce);
-    let tx = body_link(comment, p.tx);
-    let ln = body_link(long, p.long);
-    let dn = body_link(display, p.display);
+    let carried = x.fields();
+    let cc = body_link(b.conversion, p.cc);
+    let ce = body_link(b.extension, p.ce);
+    let tx = body_link(b.comment, p.tx);
+    let ln = body_link(b.long, p.long);
+    let dn = body_link(b.display, p.display);
     blocks::put_cn(
         out,
         at,
-        image,
-        carried.from,
-        carried.held,
+        carried.main,
+        carried.later,
         next,
         cc,
         ce,
@@ -159,94 +132,71 @@ fn put_channel_block(
 }
 
 // The bodies of a channel at their places: CC, CE and three TX.
-fn put_bodies(out: &mut [u8], at: usize, image: &[u8], b: Bodies, p: Places)
-    requires { BodiesInside image.now b × PlacesAre at b p × (p.end ≤ length out.old) }
-    ensures { Wrote out.old out.new (at + 228) (bodies_bytes image.now b) }
+fn put_bodies(out: &mut [u8], at: usize, b: Bodies, p: Places)
+    requires { PlacesAre at b p × (p.end ≤ length out.old) }
+    ensures { Wrote out.old out.new (at + 228) (bodies_bytes b.entry) }
 {
-    let conversion = b.conversion;
-    let extension = b.extension;
-    let comment = b.comment;
-    let long = b.long;
-    let display = b.display;
-    put_body(out, p.cc, image, conversion, blocks::CC);
-    put_body(out, p.ce, image, extension, blocks::CE);
-    put_body(out, p.tx, image, comment, blocks::TX);
-    put_body(out, p.long, image, long, blocks::TX);
-    put_body(out, p.display, image, display, blocks::TX);
+    put_body::<Cc>(out, p.cc, b.conversion);
+    put_body::<Ce>(out, p.ce, b.extension);
+    put_body::<Tx>(out, p.tx, b.comment);
+    put_body::<Tx>(out, p.long, b.long);
+    put_body::<Tx>(out, p.display, b.display);
 }
 
 // A channel with its bodies at their places, and the link to the next one.
-fn put_channel(
-    out: &mut [u8],
-    at: usize,
-    image: &[u8],
-    x: Channel,
-    b: Bodies,
-    p: Places,
-    next: usize,
-)
-    requires { AtChannel image.now x × BodiesAre image.now b (the_channel image.now x) × PlacesAre at b p × (at + channel_length (the_channel image.now x) ≤ length out.old) }
-    ensures { Wrote out.old out.new at (channel_as at next (the_channel image.now x)) }
+fn put_channel(out: &mut [u8], at: usize, x: Channel, b: Bodies, p: Places, next: usize)
+    requires { BodiesAre b (the_channel x) × PlacesAre at b p × (at + channel_length (the_channel x) ≤ length out.old) }
+    ensures { Wrote out.old out.new at (channel_as at next (the_channel x.entry)) }
 {
-    put_channel_block(out, at, image, x, b, p, next);
-    put_bodies(out, at, image, b, p);
+    put_channel_block(out, at, x, b, p, next);
+    put_bodies(out, at, b, p);
 }
 
 // ---- the channels of a group
 
 // The length of the channels that are left, and how many they are.
-pub fn channels_sum(image: &[u8], channels: Channels) -> Sum
-    requires { AtChannels image.now channels }
-    ensures { SumIs result (channels_length (channels_left image.now channels)) (length (channels_left image.now channels)) }
+pub fn channels_sum(channels: Channels) -> Sum
+    ensures { SumIs result (channels_length (channels_left channels.entry)) (length (channels_left channels.entry)) }
 {
     let mut c = channels;
     let mut sum: usize = 0;
     let mut count: usize = 0;
-    loop {
-        let ChannelStep::Next(x, n) = c.next(image) else {
-            return Sum { length: sum, count };
-        };
-        sum += channel_length(image, x);
+    // With a count of its own: it ends above the longest copy, so that nothing wraps.
+    while let Some((x, n)) = c.next() {
+        sum += channel_length(x);
         if 2147483647 < sum {
-            return Sum { length: sum, count };
+            break;
         }
         count += 1;
         c = n;
     }
+    Sum { length: sum, count }
 }
 
 // The link to the channels that are left, where they stand at a place of the copy.
-fn channels_link(image: &[u8], channels: Channels, at: usize) -> usize
-    requires { AtChannels image.now channels }
-    ensures { result ≡ target (link_to_first at (channels_left image.now channels)) }
+fn channels_link(channels: Channels, at: usize) -> usize
+    ensures { result ≡ target (link_to_first at (channels_left channels.entry)) }
 {
-    match channels.next(image) {
-        ChannelStep::Done => 0,
-        ChannelStep::Next(_x, _n) => at,
+    match channels.next() {
+        Some(_step) => at,
+        None => 0,
     }
 }
 
 // The channels that are left, from a place on.
-pub fn put_channels(out: &mut [u8], at: usize, image: &[u8], channels: Channels)
-    requires { AtChannels image.now channels × (at + channels_length (channels_left image.now channels) ≤ length out.old) }
-    ensures { Wrote out.old out.new at (channels_bytes at (channels_left image.now channels)) }
+pub fn put_channels(out: &mut [u8], at: usize, channels: Channels)
+    requires { at + channels_length (channels_left channels) ≤ length out.old }
+    ensures { Wrote out.old out.new at (channels_bytes at (channels_left channels.entry)) }
 {
     let mut c = channels;
     let mut to = at;
-    loop {
-        match c.next(image) {
-            ChannelStep::Done => {
-                return;
-            }
-            ChannelStep::Next(x, n) => {
-                let b = bodies_of(image, x);
-                let p = places_of(to, b);
-                let end = p.end;
-                let next = channels_link(image, n, end);
-                put_channel(out, to, image, x, b, p, next);
-                to = end;
-                c = n;
-            }
-        }
+    while let Some((x, n)) = c.next() {
+        let b = bodies_of(x);
+        let p = places_of(to, b);
+        let end = p.end;
+        let next = channels_link(n, end);
+        put_channel(out, to, x, b, p, next);
+        to = end;
+        c = n;
     }
 }

@@ -1,17 +1,23 @@
 -- Marks of two logs, record by record.
 -- Assumes nothing.
-use Prim.Native.Nat.{ℕ, zero, suc, ◌<◌}
+use Prim.Native.Nat.{ℕ, ◌<◌}
 use mathlib.Core.Path.{◌≡◌, refl, sym, ap, ◌∙◌}
 use mathlib.Core.Bool.{Bool, true, false, true≢false}
 use mathlib.Core.List.{List, [], ◌∷◌}
 use native.Mathlib.Omega.{arith}
 use lib.Dec.{eqb}
+use denote.Ref.{Bor}
+use Rattle.std.specs.Prelude.{Option, Some, None}
+use Rattle.std.proofs.Math.Logic.{∥∥₁_elim}
+use Rattle.std.proofs.Math.Bridge.{le_prop}
+use Rattle.std.specs.Coded.{codes}
+use Rattle.std.specs.Option.{option_eq, option_copied, unwrap_or}
 use lib.ListN.{length, set, get_or}
 use lib.Seq.{get_or-set_same, get_or-set_other}
 use borrow.Author.Tests.{eqb-true, eqb-false}
-use Rattle.reading.specs.Promise.{Keyed, log_at, records_with}
+use Rattle.reading.specs.Promise.{Keyed, records_with}
 use Rattle.reading.specs.declared.Group.{Group}
-use Rattle.reading.specs.Steps.{AtGroup, the_group, key_of}
+use Rattle.reading.specs.Steps.{the_group, key_of, log_of}
 use Rattle.reading.proofs.Promise.{with_own, with_other, group_rows}
 use Rattle.same_records.specs.Marks.{Told}
 
@@ -65,20 +71,19 @@ module _ {L M l m : List Keyed} {marks : List ℕ} (p : Marking L M l m marks) w
 
 -- ---- what follows for two groups
 
-pub no_same : {A : Type 0} {x y : A} → ◌≡◌ {A = Bool} false true → x ≡ y
-no_same e = absurd (true≢false (sym e))
+rows : (g : Group) → (the_group g).records ≡ records_with (log_of g) (key_of g)
+rows g = ∥∥₁_elim g.stands (hlevel (codes, le_prop)) (λ s. group_rows _ _ _ _ s)
 
-pub same_by : (a : List ℕ) (g : Group) (b : List ℕ) (h : Group) (marks : List ℕ) (tells : Bool) → AtGroup a g → AtGroup b h → Told tells (log_at a g.index) (log_at b h.index) marks → tells ≡ true
-    → (k l : ℕ) → k ≡ key_of a g → l ≡ key_of b h → k ≡ l → get_or marks k 1 ≡ 0 → (the_group a g).records ≡ (the_group b h).records
-same_by a g b h marks tells s t told is k l x y e z =
-    group_rows a g.index g.dg g.cg s
-    ∙ ap (records_with (log_at a g.index)) (sym x)
+pub same_by : (g h : Group) (marks : List ℕ) (tells : Bool) → Told tells (log_of g) (log_of h) marks → tells ≡ true
+    → (k l : ℕ) → k ≡ key_of g → l ≡ key_of h → k ≡ l → get_or marks k 1 ≡ 0 → (the_group g).records ≡ (the_group h).records
+same_by g h marks tells told is k l x y e z =
+    rows g
+    ∙ ap (records_with (log_of g)) (sym x)
     ∙ told.same is k z
-    ∙ ap (records_with (log_at b h.index)) (e ∙ y)
-    ∙ sym (group_rows b h.index h.dg h.cg t)
+    ∙ ap (records_with (log_of h)) (e ∙ y)
+    ∙ sym (rows h)
 
--- where an element is, it does not count what stands in for others
-pub whatever : (xs : List ℕ) (i d : ℕ) → i < length xs → get_or xs i d ≡ get_or xs i 0
-whatever [] i d h = absurd (omega arith)
-whatever (x ∷ xs) zero d h = refl
-whatever (x ∷ xs) (suc i) d h = whatever xs i d (omega arith)
+-- a mark that is there, and is 0
+pub unmarked : (o : Option (Bor ℕ)) (z : Bor ℕ) {r : Bool} {m : ℕ} → z.now ≡ 0 → r ≡ option_eq (λ x y. eqb x.now y.now) o (Some z) → unwrap_or (option_copied o) 1 ≡ m → r ≡ true → m ≡ 0
+unmarked None z n e f t = absurd (true≢false (sym t ∙ e))
+unmarked (Some x) z n e f t = sym f ∙ eqb-true x.now z.now (sym e ∙ t) ∙ n

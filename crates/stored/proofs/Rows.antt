@@ -30,9 +30,9 @@ part_of_part : (image : List ℕ) (place size from n : ℕ) → from + n ≤ siz
 part_of_part image place size from n h =
     drop_take from n size (drop place image) h ∙ ap (take n) (drop-drop from place image)
 
-module _ (image : List ℕ) (c : Channel) (place size : ℕ) (h : RowAt image c place size) (s : Signal) (is : SignalIs (the_channel image c).fields s) where
-  pub in_record : (s.bits ≡ 0 → ⊥) → byte_offset (the_channel image c).fields + byte_count (the_channel image c).fields ≤ size
-  in_record d = bytes_fit size (the_channel image c).fields (λ e. d (is.bits ∙ e)) h.well_formed.bits
+module _ (image : List ℕ) (c : Channel) (place size : ℕ) (h : RowAt image c place size) (s : Signal) (is : SignalIs (the_channel c).fields s) where
+  pub in_record : (s.bits ≡ 0 → ⊥) → byte_offset (the_channel c).fields + byte_count (the_channel c).fields ≤ size
+  in_record d = bytes_fit size (the_channel c).fields (λ e. d (is.bits ∙ e)) h.bits
 
   module _ (d : s.bits ≡ 0 → ⊥) where
     pub room : BitsInside image (place + s.byte) s
@@ -40,12 +40,12 @@ module _ (image : List ℕ) (c : Channel) (place size : ℕ) (h : RowAt image c 
         let l = in_record d in
         record { bit = omega (arith, is.bit); some = omega (arith, above _ _ refl d); few = is.few; inside = omega (arith, l, h.inside, is.byte, is.bit, is.bits) }
 
-    pub bits_of : (x : Logged) → LoggedAt image place size x → BitsOf image (place + s.byte) s (the_channel image c).fields x
+    pub bits_of : (x : Logged) → LoggedAt image place size x → BitsOf image (place + s.byte) s (the_channel c).fields x
     bits_of x l =
         record {
           signal = is;
           place = omega (arith, l.begins, is.byte);
-          bytes = rw (l.content, is.byte) (part_of_part image place size (byte_offset (the_channel image c).fields) (byte_count (the_channel image c).fields) (in_record d));
+          bytes = rw (l.content, is.byte) (part_of_part image place size (byte_offset (the_channel c).fields) (byte_count (the_channel c).fields) (in_record d));
         }
 
 -- no bits, or some

@@ -1,18 +1,21 @@
 -- The bits of a channel in a record, and the tests of refusal 15.
 -- Assumes nothing.
-use Prim.Native.Nat.{ℕ, ◌+◌, ◌*◌, ◌/◌, ◌%◌, ◌^◌, ◌≤◌, ◌<◌}
-use mathlib.Core.Path.{◌≡◌, refl, sym, ap}
+use Prim.Native.Nat.{ℕ, ◌+◌, ◌*◌, ◌/◌, ◌%◌, ◌^◌}
+use mathlib.Core.Path.{◌≡◌, refl, sym, ◌∙◌, ap}
 use mathlib.Core.Bool.{Bool, true, false, ◌&&◌}
 use mathlib.Core.List.{List}
 use lib.Dec.{leb, eqb}
-use lib.ListN.{length}
 use native.Mathlib.Omega.{arith}
-use borrow.Author.Tests.{le-leb, lt-leb, eq-eqb, ne_eqb, eqb-true, eqb-false}
-use Rattle.answers.specs.Samples.{Fields, Logged, bit_offset, bit_count, number_in, pattern}
-use Rattle.answers.proofs.Laws.{both}
+use borrow.Author.Tests.{eq-eqb, ne_eqb, eqb-true, eqb-false, leb-true}
+use Rattle.std.specs.Prelude.{Option, Some, None, option_map, MatchOption, IsSomeAnd}
+use Rattle.answers.specs.Readings.{accepted}
+use Rattle.answers.specs.Samples.{Fields, Logged, bit_offset, bit_count, number_in, pattern, unsigned, single, double, unsigned_integer, signed_integer, single_float, double_float, stored_as}
+use Rattle.answers.proofs.Laws.{refuses, admits}
 use Rattle.bits.specs.Bits.{order_of, bits_at}
 use Rattle.reading.specs.declared.Signal.{Signal}
-use Rattle.stored.specs.Stored.{BitsInside, BitsOf}
+use Rattle.stored.specs.declared.Stored.{Stored}
+use Rattle.stored.specs.declared.Stored.TheVariants as stored
+use Rattle.stored.specs.Stored.{BitsInside, BitsOf, NumberIs, typed, ReadAs, answer_at}
 
 -- a whole number of bytes
 whole_bytes : (b : ℕ) → eqb b (8 * (b / 8)) ≡ eqb (b % 8) 0
@@ -29,11 +32,9 @@ module _ (image : List ℕ) (at : ℕ) (s : Signal) (f : Fields) (x : Logged) (h
       rw (h.signal.bit, h.signal.bits)
       (ap (λ (bytes : List ℕ). number_in (order_of big) bytes / 2 ^ bit_offset f % 2 ^ bit_count f) (sym h.bytes))
 
-  pub wide : 64 < s.bit + s.bits → leb (bit_offset f + bit_count f) 64 ≡ false
-  wide l = rw (h.signal.bit, h.signal.bits) at (lt-leb (s.bit + s.bits) 64 l)
-
-  pub narrow : s.bit + s.bits ≤ 64 → leb (bit_offset f + bit_count f) 64 ≡ true
-  narrow l = rw (h.signal.bit, h.signal.bits) at (le-leb (s.bit + s.bits) 64 l)
+  -- a test of the number of bits
+  pub within_is : leb (s.bit + s.bits) 64 ≡ leb (bit_offset f + bit_count f) 64
+  within_is = rw (h.signal.bit, h.signal.bits)
 
   -- a test of the first bit and of the width
   pub fills_is : (w : ℕ) → (eqb s.bit 0 && eqb s.bits w) ≡ (eqb (bit_offset f) 0 && eqb (bit_count f) w)
@@ -42,15 +43,48 @@ module _ (image : List ℕ) (at : ℕ) (s : Signal) (f : Fields) (x : Logged) (h
   pub runs_is : (eqb s.bit 0 && eqb s.bits (8 * (s.bits / 8))) ≡ (eqb (bit_offset f) 0 && eqb (bit_count f % 8) 0)
   runs_is = rw (whole_bytes s.bits, h.signal.bit, h.signal.bits)
 
--- what it says where it passes
-module _ (s : Signal) (w : ℕ) (e : (eqb s.bit 0 && eqb s.bits w) ≡ true) where
-  filled : (s.bit ≡ 0) × (s.bits ≡ w)
-  filled =
-      let b = both (eqb s.bit 0) (eqb s.bits w) e in
-      (eqb-true s.bit 0 b.0, eqb-true s.bits w b.1)
+-- ---- a sample by its bits
 
-  pub filled_width : s.bits ≡ w
-  filled_width = filled.1
+-- what the library says of a map
+pub mapped : (k : ℕ → Stored) (r : Option ℕ) (o : Option Stored) → MatchOption r (o ≡ None) (λ n. IsSomeAnd o (λ x. x ≡ k n)) → o ≡ option_map k r
+mapped k None o h = h
+mapped k (Some n) (Some x) h = ap Some h
+mapped k (Some n) None h = absurd h
 
-  pub filled_room : {image : List ℕ} {at : ℕ} → w ≤ 64 → BitsInside image at s → (s.bit < 8) × (1 ≤ s.bits) × (s.bit + s.bits ≤ 64) × (at + (s.bit + s.bits + 7) / 8 ≤ length image)
-  filled_room l r = let f = filled in (r.bit, r.some, omega (arith, f.0, f.1), r.inside)
+module _ (image : List ℕ) (at : ℕ) (s : Signal) (big : Bool) (field : ℕ) where
+  pub unsigned_read : (r : Option ℕ) → NumberIs (leb (s.bit + s.bits) 64) big image at s r → ReadAs (typed unsigned_integer big) image at s field (answer_at field (option_map stored.Unsigned r))
+  unfolding stored_as
+  unsigned_read None h = record { is = λ f x i. refuses _ _ _ _ (sym (within_is _ _ _ f x i) ∙ h); fits = tt }
+  unsigned_read (Some n) h =
+      record {
+        is = λ f x i. admits _ _ _ _ (sym (within_is _ _ _ f x i) ∙ h.0) (ap (λ m. accepted (unsigned m)) (h.1 ∙ pattern_is _ _ _ f x i _));
+        fits = (tt, tt);
+      }
+
+  pub signed_read : BitsInside image at s → (r : Option ℕ) → NumberIs (leb (s.bit + s.bits) 64) big image at s r → ReadAs (typed signed_integer big) image at s field (answer_at field (option_map (stored.Signed s.bits) r))
+  unfolding stored_as
+  signed_read inside None h = record { is = λ f x i. refuses _ _ _ _ (sym (within_is _ _ _ f x i) ∙ h); fits = tt }
+  signed_read inside (Some n) h =
+      let l = leb-true (s.bit + s.bits) 64 h.0 in
+      record {
+        is = λ f x i. admits _ _ _ _ (sym (within_is _ _ _ f x i) ∙ h.0) (rw (i.signal.bits, h.1 ∙ pattern_is _ _ _ f x i _));
+        fits = ((inside.some, omega (arith, l), h.2), tt);
+      }
+
+  pub single_read : (r : Option ℕ) → NumberIs (eqb s.bit 0 && eqb s.bits 32) big image at s r → ReadAs (typed single_float big) image at s field (answer_at field (option_map stored.Single r))
+  unfolding stored_as
+  single_read None h = record { is = λ f x i. refuses _ _ _ _ (sym (fills_is _ _ _ f x i 32) ∙ h); fits = tt }
+  single_read (Some n) h =
+      record {
+        is = λ f x i. admits _ _ _ _ (sym (fills_is _ _ _ f x i 32) ∙ h.0) (ap (λ m. accepted (single m)) (h.1 ∙ pattern_is _ _ _ f x i _));
+        fits = (tt, tt);
+      }
+
+  pub double_read : (r : Option ℕ) → NumberIs (eqb s.bit 0 && eqb s.bits 64) big image at s r → ReadAs (typed double_float big) image at s field (answer_at field (option_map stored.Double r))
+  unfolding stored_as
+  double_read None h = record { is = λ f x i. refuses _ _ _ _ (sym (fills_is _ _ _ f x i 64) ∙ h); fits = tt }
+  double_read (Some n) h =
+      record {
+        is = λ f x i. admits _ _ _ _ (sym (fills_is _ _ _ f x i 64) ∙ h.0) (ap (λ m. accepted (double m)) (h.1 ∙ pattern_is _ _ _ f x i _));
+        fits = (tt, tt);
+      }

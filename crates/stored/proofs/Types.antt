@@ -2,18 +2,19 @@
 -- Assumes nothing.
 use Prim.Native.Nat.{ℕ, zero, suc, ◌+◌, ◌-◌, ◌≤◌, ◌<◌}
 use mathlib.Core.Path.{◌≡◌, refl, sym, ◌∙◌, ap}
-use mathlib.Core.Bool.{Bool, false}
+use mathlib.Core.Bool.{Bool}
 use mathlib.Core.Logic.{inl, inr}
 use mathlib.Core.List.{List, [], ◌∷◌}
 use native.Mathlib.Omega.{arith}
 use lib.ListN.{get_or-eq_default}
 use types.Run.{OneOf}
-use Rattle.answers.specs.Samples.{Encoding, unsigned_integer, signed_integer, single_float, double_float, byte_run, unreadable, DataType, data_types, type_of, type_at, stored_as}
+use Rattle.std.specs.Prelude.{Result, None}
+use Rattle.answers.specs.Samples.{Encoding, unsigned_integer, signed_integer, single_float, double_float, unreadable, DataType, data_types, type_of, type_at, stored_as}
 use Rattle.bits.specs.Bits.{order_of}
 use Rattle.reading.specs.declared.Signal.{Signal}
-use Rattle.stored.specs.declared.StoredAnswer.{StoredAnswer}
-use Rattle.stored.specs.declared.StoredAnswer.TheVariants.{Refused}
-use Rattle.stored.specs.Stored.{typed, ReadAs, big_of}
+use Rattle.refusal.specs.declared.Refusal.{Refusal}
+use Rattle.stored.specs.declared.Stored.{Stored}
+use Rattle.stored.specs.Stored.{typed, ReadAs, answer_at, big_of}
 
 -- a data type of this encoding, in the code's byte order
 abbrev Reads : Encoding → ℕ → Type 0
@@ -35,15 +36,6 @@ single_type k h = one_of_three (Reads single_float) 2 11 15 k refl refl refl h
 
 pub double_type : (k : ℕ) → OneOf (3 ∷ 12 ∷ 16 ∷ []) k → Reads double_float k
 double_type k h = one_of_three (Reads double_float) 3 12 16 k refl refl refl h
-
--- 7 and 8, which have no byte order
-pub run_type : (k : ℕ) → 7 ≤ k → k < 9 → Reads byte_run k × (false ≡ big_of k)
-run_type k l h = go (k - 7) (omega arith) (omega arith)
-  where
-    go : (j : ℕ) → k ≡ 7 + j → j < 2 → Reads byte_run k × (false ≡ big_of k)
-    go zero e h = rw e (refl, refl)
-    go (suc zero) e h = rw e (refl, refl)
-    go (suc (suc j)) e h = absurd (omega arith)
 
 -- none of the keys below 7, and none from 9 on
 module _ (k : ℕ)
@@ -79,7 +71,7 @@ module _ (k : ℕ)
 
 module _ {image : List ℕ} {at : ℕ} {s : Signal} {field : ℕ} where
   -- the data type that the code read by is the channel's
-  pub read_as : (e : Encoding) (big : Bool) {r : StoredAnswer} → Reads e s.data_type → big ≡ big_of s.data_type → ReadAs (typed e big) image at s field r → ReadAs type_of image at s field r
+  pub read_as : (e : Encoding) (big : Bool) {r : Result Stored Refusal} → Reads e s.data_type → big ≡ big_of s.data_type → ReadAs (typed e big) image at s field r → ReadAs type_of image at s field r
   read_as e big t b h =
       record {
         is = λ f x i.
@@ -90,7 +82,7 @@ module _ {image : List ℕ} {at : ℕ} {s : Signal} {field : ℕ} where
         fits = h.fits;
       }
 
-  pub unread : (type_at s.data_type).encoding ≡ unreadable → ReadAs type_of image at s field (Refused 15 field)
+  pub unread : (type_at s.data_type).encoding ≡ unreadable → ReadAs type_of image at s field (answer_at field None)
   unfolding stored_as
   unread t =
       record {

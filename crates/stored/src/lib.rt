@@ -1,12 +1,14 @@
 // Samples as they are stored: their kind and their bits, or the part of the image that they are. 15 where they can't be read.
 #![tactic(auto)]
 
-ghost use Rattle.std.specs.Prelude.{◌≡◌, false, ◌&&◌, eqb, ◌+◌};
-ghost use Rattle.answers.specs.Samples.{Logged, unsigned_integer, signed_integer, single_float, double_float, byte_run, type_of, stored_sample};
+ghost use Rattle.std.specs.Prelude.{◌≡◌, ℕ, false, ◌&&◌, eqb, leb, ◌+◌, ◌≤◌};
+ghost use Rattle.answers.specs.Samples.{Logged, byte_run, type_of, stored_sample};
 ghost use Rattle.reading.specs.Steps.{the_channel, channel_place};
-ghost use Rattle.stored.specs.Stored.{BitsInside, typed, ReadAs, answer_of, Fits, big_of, RowAt, LoggedAt, SampleIs};
+ghost use Rattle.refusal.specs.Refused.{answer_of};
+ghost use Rattle.stored.specs.Stored.{BitsInside, NumberIs, typed, ReadAs, answer_at, stored_of, Fits, big_of, RowAt, LoggedAt, SampleIs};
 
-use reading::{Channel, Signal, Sought};
+use reading::{Channel, Reason, Signal};
+pub use reading::{Refusal, Span};
 
 // Its kind and its bits, or the part of the image that it is.
 #[derive(Clone, Copy)]
@@ -16,35 +18,19 @@ pub enum Stored {
     Signed(usize, u64),
     Single(u32),
     Double(u64),
-    // Place and length.
-    Part(usize, usize),
+    // Where it stands.
+    Part(Span),
 }
 
-// A stored sample, or a refusal with number and place.
-#[derive(Clone, Copy)]
-pub enum StoredAnswer {
-    Found(Stored),
-    Refused(u32, usize),
-}
-
-fn unsigned(image: &[u8], at: usize, s: Signal, big: bool, field: usize) -> StoredAnswer
+// The bits as a number, of up to 64 of them.
+fn number(image: &[u8], at: usize, s: Signal, big: bool) -> Option<u64>
     requires { BitsInside image.now at s }
-    ensures { ReadAs (typed unsigned_integer big) image.now at s field result }
+    ensures { NumberIs (leb (s.bit + s.bits) 64) big image.now at s result }
 {
     if 64 < s.bit + s.bits {
-        return StoredAnswer::Refused(15, field);
+        return None;
     }
-    StoredAnswer::Found(Stored::Unsigned(bits::raw(image, at, s.bit, s.bits, big)))
-}
-
-fn signed(image: &[u8], at: usize, s: Signal, big: bool, field: usize) -> StoredAnswer
-    requires { BitsInside image.now at s }
-    ensures { ReadAs (typed signed_integer big) image.now at s field result }
-{
-    if 64 < s.bit + s.bits {
-        return StoredAnswer::Refused(15, field);
-    }
-    StoredAnswer::Found(Stored::Signed(s.bits, bits::raw(image, at, s.bit, s.bits, big)))
+    Some(bits::raw(image, at, s.bit, s.bits, big))
 }
 
 // Whether a signal fills so many bits from the first of a byte on.
@@ -54,82 +40,82 @@ fn fills(s: Signal, width: usize) -> bool
     s.bit == 0 && s.bits == width
 }
 
-fn single(image: &[u8], at: usize, s: Signal, big: bool, field: usize) -> StoredAnswer
-    requires { BitsInside image.now at s }
-    ensures { ReadAs (typed single_float big) image.now at s field result }
+// The bits of a float of this width.
+fn float(image: &[u8], at: usize, s: Signal, width: usize, big: bool) -> Option<u64>
+    requires { BitsInside image.now at s × (width ≤ 64) }
+    ensures { NumberIs (eqb s.bit 0 && eqb s.bits width) big image.now at s result }
 {
-    if !fills(s, 32) {
-        return StoredAnswer::Refused(15, field);
+    if !fills(s, width) {
+        return None;
     }
-    StoredAnswer::Found(Stored::Single(bits::raw(image, at, s.bit, s.bits, big) as u32))
-}
-
-fn double(image: &[u8], at: usize, s: Signal, big: bool, field: usize) -> StoredAnswer
-    requires { BitsInside image.now at s }
-    ensures { ReadAs (typed double_float big) image.now at s field result }
-{
-    if !fills(s, 64) {
-        return StoredAnswer::Refused(15, field);
-    }
-    StoredAnswer::Found(Stored::Double(bits::raw(image, at, s.bit, s.bits, big)))
+    number(image, at, s, big)
 }
 
 // Text or bytes: a part of the image.
-fn run(image: &[u8], at: usize, s: Signal, field: usize) -> StoredAnswer
+fn run(image: &[u8], at: usize, s: Signal) -> Option<Stored>
     requires { BitsInside image.now at s }
-    ensures { ReadAs (typed byte_run false) image.now at s field result }
+    ensures { (field : ℕ) → ReadAs (typed byte_run false) image.now at s field (answer_at field result) }
 {
     let size = s.bits / 8;
     let whole = 8 * size;
     if !fills(s, whole) {
-        return StoredAnswer::Refused(15, field);
+        return None;
     }
-    StoredAnswer::Found(Stored::Part(at, size))
+    Some(Stored::Part(Span { at, size }))
 }
 
 // Whether a data type has its highest byte first.
 fn big_endian(data_type: usize) -> bool
     ensures { result ≡ big_of data_type }
 {
-    9 <= data_type && data_type <= 12
+    (9..=12).contains(&data_type)
 }
 
-// The sample of a channel's bits, by its data type.
-fn stored_as(image: &[u8], at: usize, s: Signal, field: usize) -> StoredAnswer
+// The sample of a channel's bits, by its data type, where it can be read.
+fn read(image: &[u8], at: usize, s: Signal) -> Option<Stored>
     requires { BitsInside image.now at s }
-    ensures { ReadAs type_of image.now at s field result }
+    ensures { (field : ℕ) → ReadAs type_of image.now at s field (answer_at field result) }
 {
     let data_type = s.data_type;
     let big = big_endian(data_type);
     match data_type {
-        0 | 9 | 13 => unsigned(image, at, s, big, field),
-        1 | 10 | 14 => signed(image, at, s, big, field),
-        2 | 11 | 15 => single(image, at, s, big, field),
-        3 | 12 | 16 => double(image, at, s, big, field),
-        7 | 8 => run(image, at, s, field),
-        _ => StoredAnswer::Refused(15, field),
+        0 | 9 | 13 => number(image, at, s, big).map(Stored::Unsigned),
+        1 | 10 | 14 => number(image, at, s, big).map(|n| Stored::Signed(s.bits, n)),
+        2 | 11 | 15 => {
+            let n = float(image, at, s, 32, big)?;
+            Some(Stored::Single(n as u32))
+        }
+        3 | 12 | 16 => float(image, at, s, 64, big).map(Stored::Double),
+        7 | 8 => run(image, at, s),
+        _ => None,
     }
 }
 
-// The sample of a channel in a record, by the record's place and size.
-pub fn sample_in(image: &[u8], c: Channel, place: usize, size: usize) -> StoredAnswer
-    requires { RowAt image.now c place size }
-    ensures { ((x : Logged) → LoggedAt image.now place size x → answer_of result ≡ stored_sample (the_channel image.now c).fields (channel_place c + 190) x) × Fits image.now result }
+// Refusal 15 where it can't.
+fn stored_as(image: &[u8], at: usize, s: Signal, field: usize) -> Result<Stored, Refusal>
+    requires { BitsInside image.now at s }
+    ensures { ReadAs type_of image.now at s field result }
 {
-    let s = c.signal(image);
-    let field = c.type_field(image);
+    read(image, at, s).ok_or(Reason::NoSample.at(field))
+}
+
+// The sample of a channel in a record, by where the record stands. The image stays beside the channel: the row is a place in it.
+pub fn sample_in(image: &[u8], c: Channel, row: Span) -> Result<Stored, Refusal>
+    requires { RowAt image.now c row.at row.size }
+    ensures { ((x : Logged) → LoggedAt image.now row.at row.size x → answer_of stored_of result ≡ stored_sample (the_channel c.entry).fields (channel_place c.entry + 190) x) × Fits image.now result }
+{
+    let s = c.signal();
+    let field = c.type_field();
     if s.bits == 0 {
-        return StoredAnswer::Refused(15, field);
+        return Err(Reason::NoSample.at(field));
     }
-    stored_as(image, place + s.byte, s, field)
+    stored_as(image, row.at + s.byte, s, field)
 }
 
 // The sample of a channel in a record as it is stored. Groups, channels and records are counted from 0.
-pub fn sample(image: &[u8], group: usize, channel: usize, record: usize) -> StoredAnswer
+pub fn sample(image: &[u8], group: usize, channel: usize, record: usize) -> Result<Stored, Refusal>
     ensures { SampleIs image.now group channel «record» result }
 {
-    match reading::seek(image, group, channel, record) {
-        Sought::Refused(number, place) => { StoredAnswer::Refused(number, place) }
-        Sought::Found(c, place, size) => { sample_in(image, c, place, size) }
-    }
+    let (c, row) = reading::seek(image, group, channel, record)?;
+    sample_in(image, c, row)
 }

@@ -8,41 +8,43 @@ use mathlib.Core.Option.{none}
 use native.Mathlib.Omega.{arith}
 use lib.ListN.{length}
 use Rattle.spec.specs.Bytes.{u16, u32, to_link}
-use Rattle.spec.specs.Answer.{Answer, refused, accepted, ◌>>=◌, map_answer}
+use Rattle.spec.specs.Answer.{Answer, refused, accepted, ◌>>=◌, map_answer, passed}
 use Rattle.spec.specs.Block.{Image, cg_kind, opening, Opened, CgBlock, read_cg}
 use Rattle.spec.specs.Records.{Slot}
 use Rattle.spec.specs.Found.{FoundBody, FoundChannel, FoundGroup, slot_of}
 use Rattle.spec.specs.Walk.{elem, group_allowed, group_list}
 use Rattle.spec.proofs.Answers.{step, pass, stop, fail}
-use Rattle.image.specs.declared.Span.{Span}
+use Rattle.refusal.specs.declared.Reason.{Reason}
 use Rattle.image.specs.declared.Block.TheVariants.{Shut}
-use Rattle.image.specs.declared.Step.{Step}
-use Rattle.image.specs.declared.Step.TheVariants.{Go, Stop}
-use Rattle.image.specs.Spans.{block_of, block_in, opened_as, step_of}
-use Rattle.image.proofs.Blocks.{not_nil, Stands, open_shut, open_open}
-use Rattle.walk.specs.Steps.{◌then◌, after, group_head}
+use Rattle.image.specs.declared.Span.{Span}
+use Rattle.image.specs.declared.Block.{Block}
+use Rattle.refusal.specs.Refused.{number_of}
+use Rattle.image.specs.Spans.{block_of, block_in, opened_as}
+use Rattle.image.proofs.Blocks.{not_nil, Stands, open_open}
+use Rattle.walk.specs.Steps.{◌then◌, group_head}
+use Rattle.walk.proofs.Channels.{then_assoc, found_refused}
 use Rattle.walk.specs.Lists.{channels_from, group_at, slot_in, Summary, summed, groups_from}
 
 -- ---- steps and answers
 
-after_then : {A : Type 0} (a b : Step) (t : Answer A) → after (a then b) t ≡ after a (after b t)
-unfolding ◌then◌ after
-after_then Go b t = refl
-after_then (Stop n p) b t = refl
-
-pub after_bind : {A B : Type 0} (s : Step) (m : Answer A) (f : A → Answer B) → (after s m >>= f) ≡ after s (m >>= f)
-unfolding after ◌>>=◌
-after_bind Go m f = refl
-after_bind (Stop n p) m f = refl
+pub then_bind : {A B : Type 0} (s : Answer (Unit {0})) (m : Answer A) (f : A → Answer B) → ((s then m) >>= f) ≡ (s then (m >>= f))
+unfolding ◌then◌ ◌>>=◌
+then_bind (refused n p) m f = refl
+then_bind (accepted u) m f = refl
 
 -- what is made of an answer, where refusals stay: of a first part and the rest
-pub seen_then : {A B C : Type 0} (o : Answer B → Answer C) → ((k p : ℕ) → o (refused k p) ≡ refused k p) → (m : Answer A) (f : A → Answer B) (t : Answer C) → ((a : A) → o (f a) ≡ t) → o (m >>= f) ≡ after (step_of m) t
-unfolding ◌>>=◌ after
+pub seen_then : {A B C : Type 0} (o : Answer B → Answer C) → ((k p : ℕ) → o (refused k p) ≡ refused k p) → (m : Answer A) (f : A → Answer B) (t : Answer C) → ((a : A) → o (f a) ≡ t) → o (m >>= f) ≡ (passed m then t)
+unfolding ◌>>=◌ ◌then◌
 seen_then o r (refused k p) f t h = r k p
 seen_then o r (accepted a) f t h = h a
 
-summed_then : {A : Type 0} (ss : List Slot) (n : ℕ) (m : Answer A) (f : A → Answer (List FoundGroup)) (t : Answer Summary) → ((a : A) → summed ss n (f a) ≡ t) → summed ss n (m >>= f) ≡ after (step_of m) t
+summed_then : {A : Type 0} (ss : List Slot) (n : ℕ) (m : Answer A) (f : A → Answer (List FoundGroup)) (t : Answer Summary) → ((a : A) → summed ss n (f a) ≡ t) → summed ss n (m >>= f) ≡ (passed m then t)
 summed_then ss n = seen_then (summed ss n) (λ k p. refl)
+
+summed_test : (ss : List Slot) (n : ℕ) (m : Answer (Unit {0})) (f : Unit {0} → Answer (List FoundGroup)) (t : Answer Summary) → ((a : Unit {0}) → summed ss n (f a) ≡ t) → summed ss n (m >>= f) ≡ (m then t)
+unfolding ◌>>=◌ ◌then◌
+summed_test ss n (refused k p) f t h = refl
+summed_test ss n (accepted a) f t h = h a
 
 -- one group in front of the rest
 summed_more : (ss : List Slot) (n : ℕ) (g : FoundGroup) (m : Answer (List FoundGroup))
@@ -67,19 +69,19 @@ module _ (image : Image) (mode : ℕ) (ss : List Slot) (used : List ℕ) (g n : 
   abbrev following : ℕ → Answer (List FoundGroup)
   following k = group_list image (1024 - (g + 1)) k mode (u16 16 (block_in image.bytes b) ∷ used) (b.at + 4) (to_link (u32 4 (block_in image.bytes b)))
 
-  abbrev found : FoundBody → List FoundChannel → FoundGroup
-  found comment channels = record { block = cg; comment = comment; channels = channels }
+  abbrev found_group : FoundBody → List FoundChannel → FoundGroup
+  found_group comment channels = record { block = cg; comment = comment; channels = channels }
 
   abbrev onwards : ℕ → Answer Summary
   onwards n' = groups_from image mode (ss ++ (slot_in image.bytes b ∷ [])) (u16 16 (block_in image.bytes b) ∷ used) (b.at + 4) (u32 4 (block_in image.bytes b)) (g + 1) n'
 
   channels_part : (comment : FoundBody) (m : Answer (List FoundChannel))
-      → summed ss n (m >>= λ channels. following (16384 - n - length channels) >>= λ rest. accepted (found comment channels ∷ rest)) ≡ (map_answer (λ xs. n + length xs) m >>= onwards)
+      → summed ss n (m >>= λ channels. following (16384 - n - length channels) >>= λ rest. accepted (found_group comment channels ∷ rest)) ≡ (map_answer (λ xs. n + length xs) m >>= onwards)
   unfolding ◌>>=◌ groups_from read_cg
   channels_part comment (refused k p) = refl
   channels_part comment (accepted xs) =
       let e : 16384 - n - length xs ≡ 16384 - (n + length xs) = omega arith in
-      summed_more ss n (found comment xs) (following (16384 - n - length xs)) ∙ ap (λ k. summed (ss ++ (slot_in image.bytes b ∷ [])) (n + length xs) (following k)) e
+      summed_more ss n (found_group comment xs) (following (16384 - n - length xs)) ∙ ap (λ k. summed (ss ++ (slot_in image.bytes b ∷ [])) (n + length xs) (following k)) e
 
   module _ (field : ℕ) (h : b.at ≡ 0 → ⊥) (l : g < 1024) (allowed : group_allowed mode used ≡ true) (s : Stands cg_kind image b.at b) where
     turn_at : groups_from image mode ss used field b.at g n ≡ (group_at image mode (elem (u16 16 (block_in image.bytes b)) used) n b >>= onwards)
@@ -88,8 +90,8 @@ module _ (image : Image) (mode : ℕ) (ss : List Slot) (used : List ℕ) (g n : 
         let one : 1024 - g ≡ suc (1024 - (g + 1)) = omega arith in
         rw (not_nil b.at h, one)
         (ap (summed ss n) (step _ (pass _ _ _ allowed) (step _ (open_open cg_kind (read_cg image.version) image field b.at b s) refl))
-        ∙ summed_then ss n _ _ _ (λ _. summed_then ss n _ _ _ (λ _. summed_then ss n _ _ _ (λ comment. summed_then ss n _ _ _ (λ _. channels_part comment _))))
-        ∙ sym (after_bind _ _ onwards ∙ after_then _ _ _ ∙ ap (after _) (after_then _ _ _ ∙ ap (after _) (after_then _ _ _))))
+        ∙ summed_test ss n _ _ _ (λ _. summed_test ss n _ _ _ (λ _. summed_then ss n _ _ _ (λ comment. summed_test ss n _ _ _ (λ _. channels_part comment _))))
+        ∙ sym (then_bind _ _ onwards ∙ simp then_assoc))
 
 -- ---- the turns
 
@@ -114,10 +116,11 @@ module _ (image : Image) (mode : ℕ) (ss : List Slot) (used : List ℕ) (field 
       groups_second e = rw (not_nil l h, one_left) (ap (summed ss n) (stop _ (fail _ _ _ e)))
 
       module _ (allowed : group_allowed mode used ≡ true) where
-        pub groups_shut : {k : ℕ} → Shut k ≡ block_of l (opening cg_kind image l) → groups_from image mode ss used field l g n ≡ refused k field
+        pub groups_shut : {r : Reason} {x : Block} → x ≡ block_of l (opening cg_kind image l) → x ≡ Shut r
+            → groups_from image mode ss used field l g n ≡ refused (number_of r) field
         unfolding groups_from group_list
-        groups_shut e =
-            rw (not_nil l h, one_left) (ap (summed ss n) (step _ (pass _ _ _ allowed) (stop _ (open_shut cg_kind (read_cg image.version) image field l e))))
+        groups_shut o e =
+            rw (not_nil l h, one_left) (ap (summed ss n) (step _ (pass _ _ _ allowed) (stop _ (found_refused cg_kind (read_cg image.version) image field l o e))))
 
         module _ (b : Span) (s : Stands cg_kind image l b) where
           turn : groups_from image mode ss used field l g n ≡ (group_at image mode (elem (u16 16 (block_in image.bytes b)) used) n b >>= onwards image mode ss used g n b)

@@ -1,36 +1,33 @@
-use Rattle.alike.proofs.Differing.{seen_none, seen_all, seen_other, seen_same, same_lengths}
-use Rattle.alike.proofs.Padding.{padded_length, padded_next, padded_end}
-use Rattle.alike.specs.Padded.{padded}
-use mathlib.Core.Path.{refl, sym, ◌∙◌}
-use native.Mathlib.Omega.{arith}
+use Rattle.std.proofs.Common.{rules, tests, ◌≡◌, ◌++◌, true, false, drop, sym, ◌∙◌}
+use Rattle.std.proofs.lemmas.Iterator.{YieldsList-from_slice}
+use Rattle.std.proofs.lemmas.Iterator.Consumers.{YieldsList-from_chain}
+use Rattle.std.proofs.lemmas.Iterator.Search.{all_from_yields_List}
+use borrow.Author.Tests.{eqb-true}
+use Rattle.std.specs.List.{list_all}
+use Rattle.alike.proofs.Alike as l
 use Rattle.alike.proofs.same_padded.Goals as goal
+use Rattle.alike.proofs.same_padded.Goals.{then-n-m, else-n-m}
 
-pub returns-then-n-m : goal.returns-then-n-m
-returns-then-n-m c =
-    let x = padded_length c.args.a.now c.args.at c.args.held c.args.n c.requires.0 c.requires.1 in
-    let y = padded_length c.args.b.now c.args.to c.args.kept c.args.m c.requires.2 c.requires.3 in
-    same_lengths (padded c.args.a.now c.args.at c.args.held c.args.n) (padded c.args.b.now c.args.to c.args.kept c.args.m) (λ e. c.if-n-m.true (sym x ∙ e ∙ y))
+pub returns-then-eq : goal.returns-then-eq
+returns-then-eq c =
+    let a = c.args in
+    let r = c.requires in
+    let xs = a.a.now in
+    let ys = a.b.now in
+    let both = c.min-both.result in
+    let past = YieldsList-from_chain (YieldsList-from_slice (drop both xs) (cc)) (YieldsList-from_slice (drop both ys) (cc)) c.chain.ensures.first_done c.chain.ensures.second_done in
+    let zeros : c.all.result ≡ list_all l.is_zero (drop both xs ++ drop both ys) = all_from_yields_List l.is_zero c.all.new.self _ c.all.result c.all.ensures.ran past (λ x b q k. search (rules, tests)) in
+    elim c.if-n-m.branch [
+      | then-n-m w ↦ zeros ∙ l.padded_same xs a.n r.0 ys a.m r.1 both c.min-both.ensures w.if-n-m.true true (cc)
+      | else-n-m w ↦ absurd (w.if-n-m.false (eqb-true a.n a.m (sym w.value-is ∙ c.if-eq.true)))
+    ]
 
-pub loop-j-init : goal.loop-j-init
-loop-j-init c = (c.if-n-m.false, seen_none _ _)
-
-pub returns-then-padded_byte : goal.returns-then-padded_byte
-returns-then-padded_byte c =
-    let l = c.loop-j in
-    let g = padded_next c.args.a.now c.args.at c.args.held c.args.n c.requires.0 c.requires.1 l.j in
-    let h = padded_next c.args.b.now c.args.to c.args.kept c.args.m c.requires.2 c.requires.3 l.j in
-    sym (seen_other _ _ 0 l.j l.invariant.1 (g (omega arith)) (h (omega (arith, l.invariant.0))) (λ e. c.if-padded_byte.true (c.padded_byte.ensures ∙ e ∙ sym c.padded_byte-in-loop-j.ensures))).is
-
-pub loop-j-preserved : goal.loop-j-preserved
-loop-j-preserved c =
-    let l = c.loop-j in
-    let g = padded_next c.args.a.now c.args.at c.args.held c.args.n c.requires.0 c.requires.1 l.j in
-    let h = padded_next c.args.b.now c.args.to c.args.kept c.args.m c.requires.2 c.requires.3 l.j in
-    (l.invariant.0, seen_same _ _ 0 l.j l.invariant.1 (g (omega arith)) (h (omega (arith, l.invariant.0))) (sym c.padded_byte.ensures ∙ c.if-padded_byte.false ∙ c.padded_byte-in-loop-j.ensures) refl refl)
-
-pub returns : goal.returns
-returns c =
-    let l = c.loop-j in
-    let g = padded_end c.args.a.now c.args.at c.args.held c.args.n c.requires.0 c.requires.1 l.j (omega arith) in
-    let h = padded_end c.args.b.now c.args.to c.args.kept c.args.m c.requires.2 c.requires.3 l.j (omega (arith, l.invariant.0)) in
-    seen_all _ _ 0 l.j l.invariant.1 g h
+pub returns-else-eq : goal.returns-else-eq
+returns-else-eq c =
+    let a = c.args in
+    let r = c.requires in
+    let both = c.min-both.result in
+    c.if-eq.false ∙ elim c.if-n-m.branch [
+      | then-n-m w ↦ l.padded_same a.a.now a.n r.0 a.b.now a.m r.1 both c.min-both.ensures w.if-n-m.true false (cc)
+      | else-n-m w ↦ l.other_padded a.a.now a.n r.0 a.b.now a.m r.1 w.if-n-m.false
+    ]

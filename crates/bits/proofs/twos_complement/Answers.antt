@@ -1,16 +1,13 @@
-use Prim.Native.Nat.{◌-◌}
 use mathlib.Core.Path.{ap, ◌∙◌}
 use native.Mathlib.Omega.{arith}
-use Rattle.bits.proofs.Signs.{is_set, is_clear, twos_low, twos_high}
+use mir.Syntax.{w64}
+use mir.Val.{of_z}
+use mir.ValLaws.{to_z-of_z}
+use Rattle.bits.proofs.Signs.{twos_is}
 use Rattle.bits.proofs.twos_complement.Goals as goal
 
-pub depth-requires : goal.depth-requires
-depth-requires c = (omega arith, omega arith, is_set _ _ c.negative.ensures c.if-negative.true, omega arith)
-
-pub returns-then-negative : goal.returns-then-negative
-returns-then-negative c =
-    let h = is_set _ _ c.negative.ensures c.if-negative.true in
-    ap (λ k. 18446744073709551615 - k) c.depth.ensures.0 ∙ twos_high _ _ h (omega arith) (omega arith)
-
 pub returns : goal.returns
-returns c = twos_low _ _ (is_clear _ _ c.negative.ensures c.if-negative.false)
+returns c =
+    let s = c.signed in
+    c.cast_unsigned.ensures ∙ ap (of_z w64) (to_z-of_z w64 s.result (record { sfits = s.type_inv }) ∙ s.ensures)
+    ∙ twos_is c.args.bits c.args.n (omega arith) (omega arith)

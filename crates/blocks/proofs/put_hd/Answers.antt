@@ -1,6 +1,5 @@
 use mathlib.Core.Path.{refl}
 use native.Mathlib.Omega.{arith}
-use lib.ListN.{length-take, length-drop}
 use Rattle.write.specs.Write.{then}
 use Rattle.blocks.specs.Blocks.{hd_bytes}
 use Rattle.blocks.proofs.put_hd.Goals as goal
@@ -8,7 +7,6 @@ use Rattle.blocks.proofs.put_hd.Goals as goal
 pub returns : goal.returns
 unfolding hd_bytes
 returns c =
-    then
-    (then c.put_hd_head.ensures c.put_part.ensures refl)
-    c.put_padded.ensures
-    (simp (length-take, length-drop) (omega (arith, c.requires)))
+    let head = then (then c.put_block_head.ensures c.put_links.ensures refl) c.put_number.ensures refl in
+    let plain = then head c.put_all.ensures refl in
+    then plain c.put_padded.ensures (omega (arith, c.requires))

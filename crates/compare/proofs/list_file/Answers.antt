@@ -1,6 +1,6 @@
 use Rattle.listing.proofs.Laws.{near, listed_as}
 use Rattle.answers.specs.Differences.{entry, unless}
-use Rattle.reading.specs.Promise.{image_reading}
+use Rattle.reading.specs.Steps.{reading_of}
 use Rattle.compare.proofs.Outcomes.{file_listed}
 use mathlib.Core.Path.{ap}
 use Rattle.compare.proofs.list_file.Goals as goal
@@ -16,7 +16,7 @@ list_unless-requires c = near c.list_unless-after_comment.ensures
 
 pub returns : goal.returns
 returns c =
-    file_listed (image_reading c.args.a.now) (image_reading c.args.b.now)
+    file_listed (reading_of c.args.f) (reading_of c.args.g)
     (listed_as c.list_unless-after_ident.ensures (ap (λ t. unless t (entry 1 0 0 0)) c.same_ident-ident.ensures))
     (listed_as c.list_unless-after_header.ensures (ap (λ t. unless t (entry 1 0 1 0)) c.same_header-header.ensures))
     (listed_as c.list_unless-after_comment.ensures (ap (λ t. unless t (entry 1 0 2 0)) c.same_comment-comment.ensures))

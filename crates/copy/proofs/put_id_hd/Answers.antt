@@ -1,13 +1,20 @@
-use Rattle.reading.proofs.Promise.{file_long}
-use Rattle.copy.proofs.Fronts.{header_as, front_written}
+use Rattle.copy.proofs.Fronts.{ident_long, header_as, front_written}
+use mathlib.Core.Path.{ap}
+use lib.ListN.{length}
 use native.Mathlib.Omega.{arith}
 use Rattle.copy.proofs.put_id_hd.Goals as goal
 
-pub put_id-requires : goal.put_id-requires
-put_id-requires c = (omega (arith, c.requires.3), omega (arith, file_long _ _ c.requires.0))
+pub put_all-requires : goal.put_all-requires
+put_all-requires c = omega (arith, c.requires.2, ap length c.ident.ensures, ident_long c.args.f)
+
+pub put_hd-requires : goal.put_hd-requires
+put_hd-requires c =
+    let s = c.requires.0 in
+    let h = c.fields-carried.ensures in
+    (s.least, s.largest, omega (arith, c.requires.2, c.put_all.auto.out), h.long, omega (arith, s.size, h.few))
 
 pub returns : goal.returns
 returns c =
-    let a = c.args in
     let p = c.requires in
-    front_written a.image.now a.f p.0 (header_as a.image.now a.front p.1 _ _ _ _ _ c.link_if-first.ensures c.body_link-tx.ensures c.body_link-pr.ensures p.2 c.fields-carried.ensures) c.put_id.ensures c.put_hd.ensures
+    let w = rw c.ident.ensures at c.put_all.ensures in
+    front_written c.args.f (header_as _ c.args.front p.0 _ _ _ _ _ c.link_if-first.ensures c.body_link-tx.ensures c.body_link-pr.ensures p.1 c.fields-carried.ensures) w c.put_hd.ensures

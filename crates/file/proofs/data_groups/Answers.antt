@@ -1,6 +1,8 @@
+use Rattle.std.proofs.lemmas.Result.{err_from_is_err_and}
 use Rattle.file.proofs.DataGroups.{data_groups_end, data_groups_full, data_groups_shut, data_groups_stop, data_groups_go}
-use Rattle.image.proofs.Blocks.{stands, fault_shut}
+use Rattle.walk.proofs.Channels.{found_stands}
 use Rattle.spec.specs.Block.{dg_kind}
+use Rattle.image.proofs.Blocks.{shut}
 use native.Mathlib.Omega.{arith}
 use mathlib.Core.Path.{refl, sym, ◌∙◌}
 use Prim.Native.Nat.{◌<◌}
@@ -12,40 +14,45 @@ loop-c-init c = (c.requires.0, c.requires.1, c.requires.2, refl)
 pub returns-then-c-eq1024 : goal.returns-then-c-eq1024
 returns-then-c-eq1024 c =
     let l = c.loop-c in
-    sym (l.invariant.3 ∙ data_groups_full _ _ _ _ _ _ c.loop-c-test.true c.if-c-eq1024.true)
+    rw c.at.ensures (sym (l.invariant.3 ∙ data_groups_full _ _ _ _ _ _ c.loop-c-test.true c.if-c-eq1024.true))
+
+pub refused-requires : goal.refused-requires
+refused-requires c = shut c.in_default.is
 
 pub returns-in_default : goal.returns-in_default
 returns-in_default c =
     let l = c.loop-c in
     let below : l.c.dgs < 1024 = omega (arith, l.invariant.0, c.if-c-eq1024.false) in
-    sym (l.invariant.3 ∙ data_groups_shut _ _ _ _ _ _ c.loop-c-test.true below (fault_shut c.open-opened.ensures c.in_default.is c.fault.ensures))
+    let is = c.refused.ensures _ c.in_default.is in
+    rw is (sym (l.invariant.3 ∙ data_groups_shut _ _ _ _ _ _ c.loop-c-test.true below c.open-opened.ensures c.in_default.is))
 
-pub data_group-w-requires : goal.data_group-w-requires
-data_group-w-requires c =
+pub data_group-requires : goal.data_group-requires
+data_group-requires c =
     let l = c.loop-c in
-    let s = stands dg_kind _ _ _ (sym c.in-Open.is ∙ c.open-opened.ensures) in
+    let s = found_stands dg_kind _ _ c.open-opened.ensures c.in-Open.is in
     (record { inside = s.inside; least = s.least }, omega (arith, l.invariant.0, c.if-c-eq1024.false), l.invariant.1, l.invariant.2)
 
-pub returns-in-Refused : goal.returns-in-Refused
-returns-in-Refused c =
+pub returns-in_err-c : goal.returns-in_err-c
+returns-in_err-c c =
     let l = c.loop-c in
-    let s = stands dg_kind _ _ _ (sym c.in-Open.is ∙ c.open-opened.ensures) in
+    let s = found_stands dg_kind _ _ c.open-opened.ensures c.in-Open.is in
     let below : l.c.dgs < 1024 = omega (arith, l.invariant.0, c.if-c-eq1024.false) in
-    let met = rw c.in-Refused.is at c.data_group-w.ensures.0 in
-    sym (l.invariant.3 ∙ data_groups_stop _ _ _ _ _ _ c.loop-c-test.true below _ s met)
+    let met = rw c.in_err-c.was at c.data_group.ensures.0 in
+    let p = err_from_is_err_and c.from_residual.result c.from_residual.ensures.1 in
+    rw (p.1, p.2) (sym (l.invariant.3 ∙ data_groups_stop _ _ _ _ _ _ c.loop-c-test.true below _ s met))
 
 pub loop-c-smaller : goal.loop-c-smaller
 loop-c-smaller c =
-    let past = rw c.in-Done.is at c.data_group-w.ensures.1 in
+    let past = rw c.in_ok-c.was at c.data_group.ensures.1 in
     omega (arith, past.2, c.loop-c.invariant.0, c.if-c-eq1024.false)
 
 pub loop-c-preserved : goal.loop-c-preserved
 loop-c-preserved c =
     let l = c.loop-c in
-    let s = stands dg_kind _ _ _ (sym c.in-Open.is ∙ c.open-opened.ensures) in
+    let s = found_stands dg_kind _ _ c.open-opened.ensures c.in-Open.is in
     let below : l.c.dgs < 1024 = omega (arith, l.invariant.0, c.if-c-eq1024.false) in
-    let past = rw c.in-Done.is at c.data_group-w.ensures.1 in
-    let met = rw c.in-Done.is at c.data_group-w.ensures.0 in
+    let past = rw c.in_ok-c.was at c.data_group.ensures.1 in
+    let met = rw c.in_ok-c.was at c.data_group.ensures.0 in
     let go = data_groups_go _ _ _ _ _ _ c.loop-c-test.true below _ s met in
     (omega (arith, past.2, below), past.3, past.4, rw (past.0, past.1, past.2) (l.invariant.3 ∙ go))
 

@@ -1,7 +1,6 @@
 use Rattle.listing.proofs.Laws as l
 use Rattle.answers.specs.Differences.{entry}
-use Rattle.reading.specs.declared.GroupStep.TheVariants.{Next, Done}
-use Rattle.reading.specs.Steps.{GroupStepIs, groups_left}
+use Rattle.reading.specs.Steps.{groups_left}
 use Rattle.list_groups.proofs.Laws.{alone_none, alone_next}
 use lib.ListN.{length}
 use mathlib.Core.List.{[], ◌∷◌}
@@ -10,38 +9,23 @@ use native.Mathlib.Omega.{arith}
 use Rattle.list_groups.proofs.list_alone.Goals as goal
 
 pub loop-to-init : goal.loop-to-init
-loop-to-init c =
-    (c.requires.0, l.begin c.args.at c.requires.1)
-
-pub next-requires : goal.next-requires
-next-requires c = c.loop-to.invariant.0
-
-pub shape_of-out-in_default : goal.shape_of-out-in_default
-shape_of-out-in_default c = l.same_length c.loop-to.invariant.1
+loop-to-init c = l.begin c.args.at c.requires
 
 pub returns-in_default : goal.returns-in_default
 returns-in_default c =
-    let a = c.args in
-    let done : GroupStepIs a.image.now c.loop-to.c Done = rw c.in_default.is at c.next.ensures in
-    l.end c.loop-to.invariant.1 (alone_none c.loop-to.c.index (groups_left a.image.now c.loop-to.c) done.0)
+    l.end c.loop-to.invariant (alone_none c.loop-to.c.index (groups_left c.loop-to.c) c.in_default.ensures.0)
 
 pub list_entry-to-requires : goal.list_entry-to-requires
-list_entry-to-requires c = l.so_far c.loop-to.invariant.1
+list_entry-to-requires c = l.so_far c.loop-to.invariant
 
 pub loop-to-smaller : goal.loop-to-smaller
-loop-to-smaller c =
-    let went : GroupStepIs c.args.image.now c.loop-to.c (Next c.in-Next._g c.in-Next.n) = rw c.in-Next.is at c.next.ensures in
-    omega (arith, ap length went.3)
+loop-to-smaller c = omega (arith, ap length c.in-Some.ensures.3)
 
 pub loop-to-preserved : goal.loop-to-preserved
 loop-to-preserved c =
-    let went : GroupStepIs c.args.image.now c.loop-to.c (Next c.in-Next._g c.in-Next.n) = rw c.in-Next.is at c.next.ensures in
+    let went = c.in-Some.ensures in
     let v = c.loop-to in
-    (went.1, l.turn v.invariant.1 (entry 2 v.c.index 0 0 ∷ []) (alone_next v.c.index c.in-Next.n.index went.3 went.4) (l.listed_as c.list_entry-to.ensures (ap (λ k. entry 2 k 0 0 ∷ []) c.number.ensures)))
-
--- ---- the list is too long already
-pub shape_of-out : goal.shape_of-out
-shape_of-out c = l.same_length c.loop-to.invariant.1
+    l.turn v.invariant (entry 2 v.c.index 0 0 ∷ []) (alone_next v.c.index c.in-Some.n.index went.3 went.4) (l.listed_as c.list_entry-to.ensures (ap (λ k. entry 2 k 0 0 ∷ []) c.number.ensures))
 
 pub returns : goal.returns
-returns c = l.stop c.loop-to.invariant.1 c.loop-to-test.false
+returns c = l.stop c.loop-to.invariant c.loop-to-test.false

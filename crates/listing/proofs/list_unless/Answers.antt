@@ -7,8 +7,3 @@ pub returns-then-same : goal.returns-then-same
 returns-then-same c =
     let a = c.args in
     listed_as (listed_none a.at c.requires) (ap (λ t. unless t (entry a.kind a.group a.item 0)) (sym c.if-same.true))
-
-pub returns : goal.returns
-returns c =
-    let a = c.args in
-    listed_as c.list_entry.ensures (ap (λ t. unless t (entry a.kind a.group a.item 0)) (sym c.if-same.false))

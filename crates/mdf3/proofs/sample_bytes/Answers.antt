@@ -16,7 +16,7 @@ returns-in-Signed c = at_kind stored_bytes (c.answer_bytes-in-Signed.ensures ∙
 
 pub returns-in-Single : goal.returns-in-Single
 unfolding stored_bytes
-returns-in-Single c = at_kind stored_bytes (c.answer_bytes-in-Single.ensures ∙ ap (λ v. answer_bytes 0 v 0 3) c.wide.ensures) c.in-Single.is
+returns-in-Single c = at_kind stored_bytes (c.answer_bytes-in-Single.ensures ∙ ap (λ v. answer_bytes 0 v 0 3) c.from.ensures) c.in-Single.is
 
 pub returns-in-Double : goal.returns-in-Double
 unfolding stored_bytes

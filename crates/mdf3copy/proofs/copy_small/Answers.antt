@@ -7,7 +7,7 @@ use Rattle.mdf3copy.proofs.copy_small.Goals as goal
 pub returns-then-image-gt32768 : goal.returns-then-image-gt32768
 returns-then-image-gt32768 c =
     let o = program_refused c.args.image.now c.args.out.now (omega (arith, c.if-image-gt32768.true)) in
-    (sym (ap (λ (x : CopyOutcome). x.given) o), sym (ap (λ (x : CopyOutcome). x.memory) o))
+    rw c.at.ensures (sym (ap (λ (x : CopyOutcome). x.given) o), sym (ap (λ (x : CopyOutcome). x.memory) o))
 
 pub returns : goal.returns
 returns c =

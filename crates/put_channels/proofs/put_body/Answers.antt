@@ -4,13 +4,13 @@ use native.Mathlib.Omega.{arith}
 use Rattle.put_channels.proofs.put_body.Goals as goal
 
 pub returns-in_default : goal.returns-in_default
-returns-in_default c = rw c.in_default.is wrote_none
+returns-in_default g c = rw c.in_default.is wrote_none
 
 pub put_block-requires : goal.put_block-requires
-put_block-requires c =
-    let p = rw c.in-Present.is at c.requires in
-    (omega (arith, p), omega (arith, p))
+put_block-requires g c =
+    let p = rw c.in-Some.is at c.requires in
+    omega (arith, p)
 
-pub returns : goal.returns
+pub returns-in-Some : goal.returns-in-Some
 unfolding block_bytes
-returns c = rw c.in-Present.is c.put_block.ensures
+returns-in-Some g c = rw c.in-Some.is c.put_block.ensures

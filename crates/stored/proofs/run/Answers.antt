@@ -9,13 +9,13 @@ pub returns-then-not-fills : goal.returns-then-not-fills
 unfolding stored_as
 returns-then-not-fills c =
     let e = sym c.fills.ensures ∙ c.if-not-fills.true in
-    record { is = λ f x h. refuses _ _ _ _ (sym (runs_is _ _ _ f x h) ∙ e); fits = tt }
+    λ field. record { is = λ f x h. refuses _ _ _ _ (sym (runs_is _ _ _ f x h) ∙ e); fits = tt }
 
 pub returns : goal.returns
 unfolding stored_as
 returns c =
     let e = sym c.fills.ensures ∙ c.if-not-fills.false in
-    record {
+    λ field. record {
       is = λ f x h. admits _ _ _ _ (sym (runs_is _ _ _ f x h) ∙ e) (rw (h.place, h.signal.bits));
       fits = (tt, omega (arith, c.requires.inside));
     }

@@ -1,31 +1,34 @@
-use Rattle.walk.proofs.Channels.{then_left, then_right, nil_go, nil_stop}
+use Rattle.std.proofs.lemmas.Result.{err_from_is_err_and}
+use Rattle.walk.proofs.Channels.{then_left, then_right, then_fail, then_pass, is_link, is_none}
 use Rattle.walk.specs.Steps.{bodies_first}
 use Rattle.spec.specs.Block.{read_cn}
-use mathlib.Core.Path.{refl}
-use Prim.Native.Nat.{◌+◌}
 use Rattle.walk.proofs.channel_first.Goals as goal
 
-pub returns-in_default : goal.returns-in_default
+pub returns-in_err-conversion : goal.returns-in_err-conversion
 unfolding bodies_first read_cn
-returns-in_default c = then_left _ (rw c.u32_in.ensures.0 at c.conversion-cc.ensures) c.in_default.is
+returns-in_err-conversion c =
+    let p = err_from_is_err_and c.from_residual.result c.from_residual.ensures.1 in
+    rw (p.1, p.2) (then_left (rw c.u32_in.ensures.0 at c.conversion.ensures) _ c.in_err-conversion.was)
 
-pub returns-in_default-ce : goal.returns-in_default-ce
+pub returns-in_err-body : goal.returns-in_err-body
 unfolding bodies_first read_cn
-returns-in_default-ce c =
-    then_right (rw c.u32_in.ensures.0 at c.conversion-cc.ensures) c.in-Go.is
-    (then_left _ (rw c.u32_in-2.ensures.0 at c.body-ce.ensures) c.in_default-ce.is)
+returns-in_err-body c =
+    let p = err_from_is_err_and c.from_residual-in_err-body.result c.from_residual-in_err-body.ensures.1 in
+    rw (p.1, p.2) (then_right (rw c.u32_in.ensures.0 at c.conversion.ensures) c.in_ok-conversion.was
+    (then_left (rw c.u32_in-2.ensures.0 at c.body.ensures) _ c.in_err-body.was))
 
 pub returns-then-u32_in-ne0 : goal.returns-then-u32_in-ne0
 unfolding bodies_first read_cn
 returns-then-u32_in-ne0 c =
-    then_right (rw c.u32_in.ensures.0 at c.conversion-cc.ensures) c.in-Go.is
-    (then_right (rw c.u32_in-2.ensures.0 at c.body-ce.ensures) c.in-Go-ce.is
-    (then_left _ (rw c.u32_in-3.ensures.0 at (nil_stop c.u32_in-3.result 6 (c.args.cn.at + 16) c.if-u32_in-ne0.true)) refl))
+    rw c.at.ensures
+    (then_right (rw c.u32_in.ensures.0 at c.conversion.ensures) c.in_ok-conversion.was
+    (then_right (rw c.u32_in-2.ensures.0 at c.body.ensures) c.in_ok-body.was
+    (then_fail _ _ _ _ (rw c.u32_in-3.ensures.0 at (is_link c.u32_in-3.result c.if-u32_in-ne0.true)))))
 
 pub returns : goal.returns
 unfolding bodies_first read_cn
 returns c =
-    then_right (rw c.u32_in.ensures.0 at c.conversion-cc.ensures) c.in-Go.is
-    (then_right (rw c.u32_in-2.ensures.0 at c.body-ce.ensures) c.in-Go-ce.is
-    (then_right (rw c.u32_in-3.ensures.0 at (nil_go c.u32_in-3.result 6 (c.args.cn.at + 16) c.if-u32_in-ne0.false)) refl
-    (rw c.u32_in-4.ensures.0 at c.body.ensures)))
+    then_right (rw c.u32_in.ensures.0 at c.conversion.ensures) c.in_ok-conversion.was
+    (then_right (rw c.u32_in-2.ensures.0 at c.body.ensures) c.in_ok-body.was
+    (then_pass _ _ _ _ (rw c.u32_in-3.ensures.0 at (is_none c.u32_in-3.result c.if-u32_in-ne0.false))
+    (rw c.u32_in-4.ensures.0 at c.body-2.ensures)))

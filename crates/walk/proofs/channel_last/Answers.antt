@@ -1,14 +1,17 @@
+use Rattle.std.proofs.lemmas.Result.{err_from_is_err_and}
 use Rattle.walk.proofs.Channels.{then_left, then_right}
 use Rattle.walk.specs.Steps.{bodies_last}
 use Rattle.spec.specs.Block.{read_cn}
 use Rattle.walk.proofs.channel_last.Goals as goal
 
-pub returns-in_default : goal.returns-in_default
+pub returns-in_err-body : goal.returns-in_err-body
 unfolding bodies_last read_cn
-returns-in_default c = then_left _ (rw c.u32_in.ensures.0 at c.body-long.ensures) c.in_default.is
+returns-in_err-body c =
+    let p = err_from_is_err_and c.from_residual.result c.from_residual.ensures.1 in
+    rw (p.1, p.2) (then_left (rw c.u32_in.ensures.0 at c.body.ensures) _ c.in_err-body.was)
 
 pub returns : goal.returns
 unfolding bodies_last read_cn
 returns c =
-    then_right (rw c.u32_in.ensures.0 at c.body-long.ensures) c.in-Go.is
-    (rw c.u32_in-2.ensures.0 at c.body.ensures)
+    then_right (rw c.u32_in.ensures.0 at c.body.ensures) c.in_ok-body.was
+    (rw c.u32_in-2.ensures.0 at c.body-2.ensures)

@@ -1,28 +1,16 @@
-use Rattle.walk.proofs.Groups.{elem_here, elem_next, elem_none}
-use native.Mathlib.Omega.{arith}
-use mathlib.Core.Path.{refl, sym, ◌∙◌}
+use Rattle.std.proofs.Common.{rules, tests}
+use Rattle.std.proofs.lemmas.Iterator.{YieldsList-from_slice}
+use Rattle.std.proofs.lemmas.Iterator.Search.{any_from_yields_List}
+use lib.Dec.{eqb}
+use mathlib.Core.Path.{◌∙◌}
+use Rattle.records.specs.declared.Slot.{Slot}
+use Rattle.walk.proofs.Tables.{elem_any}
 use Rattle.walk.proofs.known.Goals as goal
-
-pub u16_in-id-requires : goal.u16_in-id-requires
-u16_in-id-requires c = (omega arith, c.requires.0.inside)
-
-pub loop-i-init : goal.loop-i-init
-loop-i-init c = (omega arith, refl)
-
-pub returns-then-id-wide16 : goal.returns-then-id-wide16
-returns-then-id-wide16 c =
-    let l = c.loop-i in
-    let a = c.args in
-    rw c.u16_in-id.ensures.0 at (elem_here c.u16_in-id.result a.ids.now a.n l.i c.requires.1 l.invariant.1 c.loop-i-test.true (c.if-id-wide16.true ∙ c.wide16.ensures.0))
-
-pub loop-i-preserved : goal.loop-i-preserved
-loop-i-preserved c =
-    let l = c.loop-i in
-    let a = c.args in
-    (omega arith, elem_next c.u16_in-id.result a.ids.now a.n l.i c.requires.1 l.invariant.1 c.loop-i-test.true (λ e. c.if-id-wide16.false (e ∙ sym c.wide16.ensures.0)))
 
 pub returns : goal.returns
 returns c =
-    let l = c.loop-i in
-    let a = c.args in
-    rw c.u16_in-id.ensures.0 at (elem_none c.u16_in-id.result a.ids.now a.n l.i c.requires.1 l.invariant.1 c.loop-i-test.false)
+    let id = c.u16_in-id.result in
+    let slots = c.args.slots.now in
+    rw (← c.u16_in-id.ensures.0)
+    (any_from_yields_List (λ (s : Slot). eqb id s.id) _ _ _ c.any.ensures.ran (YieldsList-from_slice slots cc) (λ x b q k. search (rules, tests))
+    ∙ elem_any id slots)

@@ -1,7 +1,0 @@
-use Rattle.std.proofs.Common.{ap, ◌∙◌, w64}
-use lib.Ieee.{binary64, of_int}
-use mir.ValLaws.{to_z-of_z}
-use Rattle.floats.proofs.of_signed.Goals as goal
-
-pub returns : goal.returns
-returns c = c.nearest_i64_to_f64.ensures ∙ ap (of_int binary64) (to_z-of_z w64 c.args.n c.ranges.n)

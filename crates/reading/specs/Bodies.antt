@@ -1,0 +1,20 @@
+-- A body of the image, as the code hands it out.
+-- Assumes nothing.
+use Rattle.std.specs.Prelude.{ℕ, ◌+◌, ◌<◌, ◌≡◌, List, Option, Some, None, length}
+use Rattle.std.specs.Borrow.{Bor}
+use Rattle.std.proofs.Math.Option.{none, some}
+use Rattle.spec.specs.Reading.{Body}
+
+-- the bytes that are handed out
+abbrev pub body_held : Option (Bor (List ℕ)) → Body
+body_held None = none
+body_held (Some b) = some b.now
+
+-- with identifier and size they fit a block
+abbrev pub BodySmall : Option (Bor (List ℕ)) → Type 0
+BodySmall None = Unit {0}
+BodySmall (Some b) = length b.now + 4 < 65536
+
+pub record BodyIs (r : Option (Bor (List ℕ))) (b : Body) : Type 0 where
+  pub is : body_held r ≡ b
+  pub small : BodySmall r
