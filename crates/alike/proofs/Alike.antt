@@ -17,7 +17,7 @@ use Rattle.std.proofs.lemmas.List.Sums.{prefix_len-le-length}
 use Rattle.std.proofs.lemmas.Slice.Zip.{length-zip}
 use Rattle.std.proofs.lemmas.Bool.Decides.{nat_tests}
 use Rattle.answers.specs.Differences.{same_bytes, difference}
-use Rattle.alike.specs.Padded.{padded}
+use Rattle.write.specs.Write.{filled}
 
 -- ---- the first difference
 
@@ -97,20 +97,20 @@ same_with_zeros (x ∷ xs) (y ∷ ys) k l both e h =
     let g : length xs + k ≡ length ys + l = omega arith in
     rw f (sym (and_assoc (eqb x y) _ _) ∙ ap (λ t. eqb x y && t) (same_with_zeros xs ys k l (min (length xs) (length ys)) refl g))
 
--- ---- padded
+-- ---- filled
 
-padded_length : (a : List ℕ) (n : ℕ) → length a ≤ n → length (padded a n) ≡ n
-padded_length a n h = length-append a (replicate (n - length a) 0) ∙ rw length-replicate (omega arith)
+filled_length : (a : List ℕ) (n : ℕ) → length a ≤ n → length (filled a n) ≡ n
+filled_length a n h = length-append a (replicate (n - length a) 0) ∙ rw length-replicate (omega arith)
 
 module _ (a : List ℕ) (n : ℕ) (h : length a ≤ n) (b : List ℕ) (m : ℕ) (i : length b ≤ m) where
-  pub other_padded : (n ≡ m → ⊥) → false ≡ same_bytes (padded a n) (padded b m)
-  other_padded d =
-      let x = padded_length a n h in
-      let y = padded_length b m i in
-      sym (other_lengths (padded a n) (padded b m) (λ e. d (sym x ∙ e ∙ y)))
+  pub other_filled : (n ≡ m → ⊥) → false ≡ same_bytes (filled a n) (filled b m)
+  other_filled d =
+      let x = filled_length a n h in
+      let y = filled_length b m i in
+      sym (other_lengths (filled a n) (filled b m) (λ e. d (sym x ∙ e ∙ y)))
 
-  pub padded_same : (both : ℕ) → both ≡ min (length a) (length b) → n ≡ m → (same : Bool) → same ≡ bytes_eq (take both a) (take both b)
-      → same && list_all is_zero (drop both a ++ drop both b) ≡ same_bytes (padded a n) (padded b m)
-  padded_same both k q same is =
+  pub filled_same : (both : ℕ) → both ≡ min (length a) (length b) → n ≡ m → (same : Bool) → same ≡ bytes_eq (take both a) (take both b)
+      → same && list_all is_zero (drop both a ++ drop both b) ≡ same_bytes (filled a n) (filled b m)
+  filled_same both k q same is =
       ap (λ t. t && list_all is_zero (drop both a ++ drop both b)) is
       ∙ same_with_zeros a b (n - length a) (m - length b) both k (omega arith)

@@ -3,7 +3,7 @@
 
 ghost use Rattle.std.specs.Prelude.{◌≡◌, ◌≤◌, length};
 ghost use Rattle.answers.specs.Differences.{same_bytes, difference};
-ghost use Rattle.alike.specs.Padded.{padded};
+ghost use Rattle.write.specs.Write.{filled};
 
 // The first place at which they differ; the shorter length where there is none.
 pub fn first_difference(a: &[u8], b: &[u8]) -> usize
@@ -25,7 +25,7 @@ pub fn same_part(a: &[u8], b: &[u8]) -> bool
 // Whether they are the same bytes with zeros behind them, up to n and up to m.
 pub fn same_padded(a: &[u8], n: usize, b: &[u8], m: usize) -> bool
     requires { (length a.now ≤ n) × (length b.now ≤ m) }
-    ensures { result ≡ same_bytes (padded a.now n) (padded b.now m) }
+    ensures { result ≡ same_bytes (filled a.now n) (filled b.now m) }
 {
     let both = a.len().min(b.len());
     let (x, past_x) = a.split_at(both);

@@ -2,28 +2,31 @@
 -- Assumes nothing.
 use Prim.Native.Nat.{ℕ, suc, ◌+◌, ◌-◌, ◌*◌, ◌/◌, ◌%◌, ◌^◌, ◌<◌, ◌≤◌}
 use mathlib.Core.Path.{◌≡◌, sym, ap, ◌∙◌}
-use mathlib.Core.List.{List, [], ◌∷◌, reverse, reverse-append}
+use mathlib.Core.List.{List, [], ◌∷◌, ◌++◌, reverse, reverse-append}
 use native.Mathlib.Omega.{arith}
 use native.Mathlib.Nat.{pow-suc, lt_of_lt_of_le, pow-le-pow_right}
 use native.Mathlib.Numerals.{add-one}
 use lib.Dec.{lit<}
-use lib.ListN.{length, take, get_or}
-use lib.Seq.{take-suc}
-use Rattle.std.proofs.lemmas.Nat.{pow-add, pow_pos, shr_high, and_mask, mod_below}
-use Rattle.std.specs.Prelude.{bit_and}
+use lib.ListN.{length}
+use Rattle.std.proofs.lemmas.List.{length_push}
+use Rattle.std.proofs.lemmas.Nat.{pow-add, pow_pos, shr_high, and_mask, mod_below, or_shifted, shl_whole}
+use Rattle.std.specs.Prelude.{bit_and, bit_or}
 use Rattle.spec.specs.Bytes.{number}
 
--- the loop's turn: one byte more at the low end
-pub big_turn : (bytes : List ℕ) (k : ℕ) → k < length bytes → number (reverse (take (k + 1) bytes)) ≡ 256 * number (reverse (take k bytes)) + get_or bytes k 0
-big_turn bytes k h =
-    let e = reverse-append (take k bytes) (get_or bytes k 0 ∷ []) in
-    rw (add-one k, take-suc bytes k 0 h, e) (omega arith)
+-- so far a fold over bytes has given their number, as long as it fits
+abbrev pub Folded : List ℕ → ℕ → Type 0
+Folded bytes v = length bytes ≤ 8 → (v ≡ number (reverse bytes)) × (v < 256 ^ length bytes)
 
-pub width_turn : (k : ℕ) → 256 ^ (k + 1) ≡ 256 * 256 ^ k
-width_turn k = rw (add-one k, pow-suc) (omega arith)
-
-pub width_small : (n k v : ℕ) → n ≤ 8 → k < n → v < 256 ^ k → v < 256 ^ 7
-width_small n k v h g l = lt_of_lt_of_le l (pow-le-pow_right (lit< tt) {i = k} {j = 7} (omega arith))
+-- a byte more, at the low end
+pub folded : (bytes : List ℕ) (v x w : ℕ) → x < 2 ^ 8 → w ≡ bit_or (v * 2 ^ 8 % 2 ^ 64) x → Folded bytes v → Folded (bytes ++ (x ∷ [])) w
+folded bytes v x w h e f l =
+    let m = length_push bytes x in
+    let g = f (omega arith) in
+    let p = pow-suc 256 (length bytes) in
+    let u : v < 2 ^ 56 = lt_of_lt_of_le g.1 (pow-le-pow_right (lit< tt) {i = length bytes} {j = 7} (omega arith)) in
+    let t : w ≡ v * 2 ^ 8 + x = rw (e, shl_whole v 56 8 64 u (lit< tt)) (or_shifted v 8 x h) in
+    let r = reverse-append bytes (x ∷ []) in
+    (rw (r, t) (omega arith), rw (m, add-one (length bytes), p, t) (omega arith))
 
 -- one less than a multiple of a power of two
 pub below_multiple : (d u m : ℕ) → (d + 1) * 2 ^ u ≡ suc m → m / 2 ^ u ≡ d

@@ -7,15 +7,20 @@ use native.Mathlib.Omega.{arith}
 use native.Mathlib.Nat.{le_refl, add-mul}
 use borrow.Author.Tests.{lt-ltb, le-ltb, ltb-true, ltb-false}
 use lib.Dec.{ltb}
-use lib.IntN.{pos, negsuc}
+use lib.IntN.{ℤ, pos, negsuc}
 use lib.Pow.{pow_mono}
-use lib.Signed.{shr_z}
+use lib.Signed.{mag, shr_z}
 use mir.Syntax.{w64}
 use mir.Val.{of_z, to_z}
+use mir.ValLaws.{to_z-of_z}
 use Rattle.std.proofs.lemmas.Nat.{pow-add, shl-shr, shl_below, shl_whole, pow_pos, mul-le}
 use Rattle.spec.specs.Sample.{signed_of, twos}
 use Rattle.spec.proofs.Signs.{minus}
 use Rattle.bits.proofs.Numbers.{below_multiple}
+
+-- a number that fits 64 bits is kept by them
+pub kept : (v : ℤ) {z : ℤ} → mag v < 2 ^ 63 → v ≡ z → to_z w64 (of_z w64 v) ≡ z
+kept v l e = to_z-of_z w64 v (record { sfits = l }) ∙ e
 
 module _ (bits n : ℕ) where
   -- the highest bit is clear

@@ -8,27 +8,30 @@ ghost use Rattle.bits.specs.Bits.{order_of, bits_at};
 
 // ---- numbers of bytes
 
+// Which byte of a number comes first.
+#[derive(Clone, Copy)]
+pub enum Order {
+    LowestFirst,
+    HighestFirst,
+}
+
 // The number of these bytes, the highest first.
 fn number_big(bytes: &[u8]) -> u64
     requires { length bytes.now ≤ 8 }
     ensures { result ≡ number (reverse bytes.now) }
 {
-    let mut v: u64 = 0;
-    for x in bytes {
-        v = v * 256 + u64::from(*x);
-    }
-    v
+    bytes.iter().fold(0, |v, x| v << 8 | u64::from(*x))
 }
 
-// The number of n bytes, the lowest or the highest first.
-fn number_at(image: &[u8], at: usize, n: usize, big: bool) -> u64
+// The number of n bytes in this order.
+#[tactic(auto, unfolding(image::specs::Spans::number_at))]
+fn number_at(image: &[u8], at: usize, n: usize, order: Order) -> u64
     requires { (n ≤ 8) × (at + n ≤ length image.now) }
-    ensures { result ≡ number_in (order_of big) (take n (drop at image.now)) }
+    ensures { result ≡ number_in (order_of order) (take n (drop at image.now)) }
 {
-    if big {
-        number_big(&image[at..at + n])
-    } else {
-        image::number(image, at, n)
+    match order {
+        Order::LowestFirst => image::number(image, at, n),
+        Order::HighestFirst => number_big(&image[at..at + n]),
     }
 }
 
@@ -40,40 +43,54 @@ fn kept(v: u64, bits: usize) -> u64
     v & (u64::MAX >> (64 - bits))
 }
 
-// So many bits of the bytes from a place on, above the lowest `skip`.
-pub fn raw(image: &[u8], at: usize, skip: usize, bits: usize, big: bool) -> u64
+// So many bits of the bytes from a place on, above the lowest `skip`. Image and place, as `image::number` has them.
+#[tactic(auto, unfolding(crate::specs::Bits::bits_at))]
+pub fn raw(image: &[u8], at: usize, skip: usize, bits: usize, order: Order) -> u64
     requires { (skip < 8) × (1 ≤ bits) × (skip + bits ≤ 64) × (at + (skip + bits + 7) / 8 ≤ length image.now) }
-    ensures { (result ≡ bits_at big image.now at skip bits) × (result < 2 ^ bits) }
+    ensures { (result ≡ bits_at order image.now at skip bits) × (result < 2 ^ bits) }
 {
     let n = (skip + bits).div_ceil(8);
-    let v = number_at(image, at, n, big);
+    let v = number_at(image, at, n, order);
     kept(v >> skip, bits)
 }
 
 // ---- two's complement
 
-// The number that so many bits are in two's complement.
-pub fn signed(bits: usize, n: u64) -> i64
-    requires { (1 ≤ bits) × (bits ≤ 64) × (n < 2 ^ bits) }
-    ensures { result ≡ signed_of bits n }
-{
-    // the highest of the bits goes to the sign's place, and fills up from there on the way back
-    let unused = 64 - bits;
-    (n << unused).cast_signed() >> unused
+// A number in two's complement: how many bits it has, and these.
+#[derive(Clone, Copy)]
+pub struct Signed {
+    width: usize,
+    bits: u64,
+    ghost fits: { (1 ≤ width) × (width ≤ 64) × (bits < 2 ^ width) },
 }
 
-// The same number in 64 bits.
-pub fn twos_complement(bits: usize, n: u64) -> u64
-    requires { (1 ≤ bits) × (bits ≤ 64) × (n < 2 ^ bits) }
-    ensures { result ≡ twos bits n }
-{
-    signed(bits, n).cast_unsigned()
-}
+impl Signed {
+    pub fn new(width: usize, bits: u64) -> Signed
+        requires { (1 ≤ width) × (width ≤ 64) × (bits < 2 ^ width) }
+        ensures { (result.width ≡ width) × (result.bits ≡ bits) }
+    {
+        Signed { width, bits }
+    }
 
-// The same number without its sign.
-pub fn magnitude(bits: usize, n: u64) -> u64
-    requires { (1 ≤ bits) × (bits ≤ 64) × (n < 2 ^ bits) }
-    ensures { result ≡ nat_abs (signed_of bits n) }
-{
-    signed(bits, n).unsigned_abs()
+    pub fn value(self) -> i64
+        ensures { result ≡ signed_of self.width self.bits }
+    {
+        // to the left, so that the highest of the bits is the sign; and back, where the sign fills what is free
+        let unused = 64 - self.width;
+        (self.bits << unused).cast_signed() >> unused
+    }
+
+    // The same number in 64 bits.
+    pub fn twos_complement(self) -> u64
+        ensures { result ≡ twos self.width self.bits }
+    {
+        self.value().cast_unsigned()
+    }
+
+    // The same number without its sign.
+    pub fn magnitude(self) -> u64
+        ensures { result ≡ nat_abs (signed_of self.width self.bits) }
+    {
+        self.value().unsigned_abs()
+    }
 }

@@ -1,9 +1,10 @@
 -- The bytes of the blocks that are written, over numbers and bytes. Each number is written by its low bytes.
 -- What is all numbers is an abbrev, so that it computes to its bytes in the proofs of the functions that write it.
 -- Assumes nothing.
-use Rattle.std.specs.Prelude.{ℕ, ◌+◌, List, ◌++◌, length}
+use Rattle.std.specs.Prelude.{ℕ, ◌+◌, List, ◌∷◌, ◌++◌, length, get_or}
 use Rattle.spec.specs.Bytes.{bytes_of}
-use Rattle.spec.specs.Block.{identifier, hd_kind, dg_kind, cg_kind, cn_kind, dg_written, cg_written, cn_written}
+use Rattle.spec.specs.Block.{Kind, identifier, hd_kind, dg_kind, cg_kind, cn_kind, dg_written, cg_written, cn_written}
+pub use Rattle.image.specs.Spans.{kind_of}
 
 -- no trigger, one channel group, mode 0
 abbrev pub dg_parts : ℕ → ℕ → ℕ → List ℕ
@@ -63,9 +64,10 @@ hd_head size first comment program groups =
 unfoldable pub hd_bytes : ℕ → ℕ → ℕ → ℕ → ℕ → List ℕ → List ℕ → List ℕ
 hd_bytes size first comment program groups plain later = (hd_head size first comment program groups ++ plain) ++ later
 
--- a block that is all body: its identifier as a number of two bytes
-abbrev pub block_head : ℕ → ℕ → List ℕ
-block_head id size = bytes_of 2 id ++ bytes_of 2 size
+-- what a block begins with: the two bytes of its identifier, and its size
+abbrev pub block_head : List ℕ → ℕ → List ℕ
+block_head id size = get_or id 0 0 ∷ get_or id 1 0 ∷ bytes_of 2 size
 
-unfoldable pub block_bytes : ℕ → List ℕ → List ℕ
-block_bytes id bytes = bytes_of 2 id ++ (bytes_of 2 (4 + length bytes) ++ bytes)
+-- a block that is all body
+unfoldable pub block_bytes : Kind → List ℕ → List ℕ
+block_bytes k bytes = identifier k ++ (bytes_of 2 (4 + length bytes) ++ bytes)

@@ -5,19 +5,19 @@ ghost use Rattle.std.specs.Prelude.{◌≡◌, ◌+◌, ◌*◌, ◌-◌, ◌≤
 ghost use Rattle.spec.specs.Bytes.{bytes_of, join};
 ghost use Rattle.spec.specs.Block.{hd_written};
 ghost use Rattle.write.specs.Write.{Wrote, filled};
-ghost use Rattle.blocks.specs.Blocks.{dg_bytes, cg_bytes, cn_bytes, hd_bytes, block_head, block_bytes};
+ghost use Rattle.blocks.specs.Blocks.{dg_bytes, cg_bytes, cn_bytes, hd_bytes, kind_of, block_head, block_bytes};
 
 pub use image::{Cc, Ce, Kind, Pr, Tx};
 use image::{Cg, Cn, Dg, Hd};
 
 // ---- what blocks begin with
 
-// The identifier, as a number of two bytes, and the size.
-fn put_block_head(out: &mut [u8], at: usize, id: u64, size: usize)
+// The identifier and the size.
+fn put_block_head(out: &mut [u8], at: usize, id: [u8; 2], size: usize)
     requires { at + 4 ≤ length out.old }
     ensures { Wrote out.old out.new at (block_head id size) }
 {
-    write::put_number::<2>(out, at, id as usize);
+    write::put_all(out, at, &id);
     write::put_number::<2>(out, at + 2, size);
 }
 
@@ -79,46 +79,62 @@ pub fn hd_size(version: usize) -> usize
     }
 }
 
-// Its bytes 24 to 217, and of bytes 226 and 227 those that are held.
-pub fn put_cn(
-    out: &mut [u8],
-    at: usize,
-    main: &[u8],
-    added: &[u8],
-    next: usize,
-    cc: usize,
-    ce: usize,
-    comment: usize,
-    long: usize,
-    display: usize,
-)
+// Where the blocks stand that CN links to; nil for one that is not there.
+#[derive(Clone, Copy)]
+pub struct ChannelLinks {
+    pub next: usize,
+    pub conversion: usize,
+    pub extension: usize,
+    pub comment: usize,
+    pub long_name: usize,
+    pub display_name: usize,
+}
+
+// CN: its links, its bytes 24 to 217, and of bytes 226 and 227 those that are held.
+pub fn put_cn(out: &mut [u8], at: usize, links: ChannelLinks, main: &[u8], added: &[u8])
     requires { (at + 228 ≤ length out.old) × (length main.now ≡ 194) × (length added.now ≤ 2) }
-    ensures { Wrote out.old out.new at (cn_bytes next cc ce comment main.now long display (filled added.now 2)) }
+    ensures { Wrote out.old out.new at (cn_bytes links.next links.conversion links.extension links.comment main.now links.long_name links.display_name (filled added.now 2)) }
 {
     put_block_head(out, at, Cn::ID, Cn::WRITTEN);
-    put_links(out, at + 4, &[next, cc, ce, 0, comment]);
+    put_links(
+        out,
+        at + 4,
+        &[
+            links.next,
+            links.conversion,
+            links.extension,
+            0,
+            links.comment,
+        ],
+    );
     write::put_all(out, at + 24, main);
-    put_links(out, at + 218, &[long, display]);
+    put_links(out, at + 218, &[links.long_name, links.display_name]);
     write::put_padded(out, at + 226, added, 2);
 }
 
-// Its bytes 18 to 163, and of those behind them up to `size` those that are held.
+// Where the blocks stand that HD links to: the first group, and its bodies; nil likewise.
+#[derive(Clone, Copy)]
+pub struct HeaderLinks {
+    pub first: usize,
+    pub comment: usize,
+    pub program: usize,
+}
+
+// HD: its links, its bytes 18 to 163, and of those behind them up to `size` those that are held.
 pub fn put_hd(
     out: &mut [u8],
     at: usize,
+    size: usize,
+    links: HeaderLinks,
+    groups: usize,
     main: &[u8],
     later: &[u8],
-    size: usize,
-    first: usize,
-    comment: usize,
-    program: usize,
-    groups: usize,
 )
     requires { (164 ≤ size) × (size ≤ 208) × (at + size ≤ length out.old) × (length main.now ≡ 146) × (length later.now ≤ size - 164) }
-    ensures { Wrote out.old out.new at (hd_bytes size first comment program groups main.now (filled later.now (size - 164))) }
+    ensures { Wrote out.old out.new at (hd_bytes size links.first links.comment links.program groups main.now (filled later.now (size - 164))) }
 {
     put_block_head(out, at, Hd::ID, size);
-    put_links(out, at + 4, &[first, comment, program]);
+    put_links(out, at + 4, &[links.first, links.comment, links.program]);
     write::put_number::<2>(out, at + 16, groups);
     write::put_all(out, at + 18, main);
     write::put_padded(out, at + 164, later, size - 164);
@@ -128,7 +144,7 @@ pub fn put_hd(
 
 pub fn put_block<K: Kind>(out: &mut [u8], at: usize, body: &[u8])
     requires { at + 4 + length body.now ≤ length out.old }
-    ensures { Wrote out.old out.new at (block_bytes K.ID body.now) }
+    ensures { Wrote out.old out.new at (block_bytes (kind_of K.ID K.LEAST) body.now) }
 {
     put_block_head(out, at, K::ID, 4 + body.len());
     write::put_all(out, at + 4, body);

@@ -5,33 +5,27 @@ use mathlib.Core.Path.{◌≡◌, refl, sym, ◌∙◌, ap}
 use mathlib.Core.List.{List, [], ◌++◌, append_assoc, append-nil}
 use native.Mathlib.Omega.{arith}
 use lib.ListN.{length, length-append}
-use Rattle.answers.specs.Readings.{tx_kind, pr_kind, Reading, version, hd_written, WellFormed}
-use Rattle.answers.specs.Copies.{body_length, body_bytes, groups_bytes, groups_length, copy_length, canonical_copy, hd_of, write_hd}
-use Rattle.answers.proofs.Laws.{length_body, length_hd, accepted_well_formed}
+use Rattle.answers.specs.Readings.{tx_kind, pr_kind, Reading, version, hd_written}
+use Rattle.answers.specs.Copies.{body_length, body_bytes, groups_bytes, canonical_copy, hd_of, write_hd}
+use Rattle.answers.proofs.Laws.{length_body, length_hd}
 use Rattle.blocks.specs.Blocks.{hd_bytes}
 use Rattle.blocks.proofs.Written.{hd_written_lem}
 use Rattle.write.specs.Write.{Wrote, then, wrote_as, filled}
 use lib.Seq.{length-take-le}
 use Rattle.reading.specs.declared.Carried.{Carried}
 use Rattle.reading.specs.declared.File.{File}
+use Rattle.std.specs.Prelude.{is_some, not, nat_eq}
 use Rattle.std.proofs.Math.Logic.{∥∥₁_elim}
 use Rattle.std.proofs.Math.Bridge.{le_prop}
 use Rattle.std.specs.Coded.{codes}
 use Rattle.reading.specs.Steps.{reading_of, HeaderIs}
-use Rattle.reading.proofs.Promise.{known_bytes, file_accepted, file_long, file_ident}
-use Rattle.put_channels.specs.Written.{written_bytes, written_link}
+use Rattle.reading.proofs.Formed.{file_formed}
+use Rattle.reading.proofs.Promise.{file_long, file_ident}
+use Rattle.put_channels.specs.Written.{written_bytes, link_if}
 use Rattle.put_channels.proofs.Written.{written_link_lem, written_bytes_lem}
-use Rattle.put_groups.specs.Groups.{link_if}
 use Rattle.put_groups.proofs.Groups.{link_if_lem}
 use Rattle.copy.specs.declared.Front.{Front}
 use Rattle.copy.specs.Copying.{FrontIs, id_hd_bytes}
-
--- what follows for numbers from the form of an accepted image
-formed : (f : File) {n m : ℕ} → (WellFormed (reading_of f) → n ≡ m) → n ≡ m
-formed f g =
-    ∥∥₁_elim f.stands (hlevel (codes, le_prop)) λ s.
-    let bytes = known_bytes f.image.now f.bytes in
-    g (accepted_well_formed f.image.now bytes (reading_of f) (file_accepted f.image.now f.hd s))
 
 pub ident_long : (f : File) → length (reading_of f).ident ≡ 64
 ident_long f =
@@ -42,9 +36,9 @@ ident_long f =
 
 module _ (r : Reading) (t : Front) (s : FrontIs t r) where
   pub header_as : (first tx pr count : ℕ) (p : Carried)
-      → first ≡ link_if count t.first
-      → tx ≡ written_link t.tx t.comment
-      → pr ≡ written_link t.pr t.program
+      → first ≡ link_if (not (nat_eq count 0)) t.first
+      → tx ≡ link_if (is_some t.comment) t.tx
+      → pr ≡ link_if (is_some t.program) t.pr
       → count ≡ length r.groups
       → HeaderIs r p
       → hd_bytes t.size first tx pr count p.main.now (filled p.later.now (t.size - 164)) ≡ write_hd (version r) (length r.groups) (hd_of r)
@@ -72,7 +66,7 @@ unfolding id_hd_bytes canonical_copy
 file_written f t s w₁ w₂ w₃ w₄ =
     let r = reading_of f in
     let l₁ = ident_long f in
-    let l₂ = formed f λ ok. length_hd (version r) (length r.groups) (hd_of r) ok.plain ok.later in
+    let l₂ = file_formed f λ ok. length_hd (version r) (length r.groups) (hd_of r) ok.plain ok.later in
     let l₃ = length_body tx_kind r.comment in
     let l₄ = length_body pr_kind r.program in
     wrote_as
@@ -86,8 +80,3 @@ file_written f t s w₁ w₂ w₃ w₄ =
   where
     flat : (v w x y z : List ℕ) → (((v ++ w) ++ x) ++ y) ++ z ≡ v ++ (w ++ (x ++ (y ++ (z ++ []))))
     flat v w x y z = rw (append-nil z, append_assoc, append_assoc, append_assoc)
-
--- the length of the copy by the place of its groups
-pub length_by : (r : Reading) (first : ℕ) → first ≡ 64 + hd_written (version r) + body_length r.comment + body_length r.program → first + groups_length r.groups ≡ copy_length r
-unfolding copy_length
-length_by r first e = ap (λ n. n + groups_length r.groups) e

@@ -1,49 +1,51 @@
 -- What a copy answers in each case, and what it leaves in the output.
 -- Assumes nothing.
-use Prim.Native.Nat.{ℕ, ◌≤◌, ◌<◌}
+use Prim.Native.Nat.{ℕ, ◌≤◌}
 use mathlib.Core.Path.{◌≡◌, refl, sym, ◌∙◌, ap}
 use mathlib.Core.List.{List, ◌++◌}
 use lib.ListN.{length, drop}
-use borrow.Author.Tests.{le-leb, lt-leb, leb-true, leb-false}
-use lib.Dec.{leb}
-use mathlib.Core.Bool.{Bool, true, false}
 use native.Mathlib.Omega.{arith}
+use Rattle.refusal.specs.Refused.{fitting}
+use Rattle.refusal.proofs.Fitting.{both_tests, as_needed, within}
 use Rattle.put_channels.specs.Channels.{Capped}
+use Rattle.put_channels.proofs.Sums.{capped_exact}
 use Rattle.answers.specs.Readings.{Reading, WellFormed, refused, accepted}
 use Rattle.answers.specs.Copies.{copy_length, canonical_copy}
-use Rattle.answers.specs.Outcomes.{outcome_of, copied, copying, copy_outcome}
-use Rattle.answers.proofs.Laws.{step, pass, stop, fail, length_canonical}
+use Rattle.answers.specs.Outcomes.{Outcome, CopyOutcome, outcome_of, copied, copying, copy_outcome}
+use Rattle.answers.proofs.Laws.{step, stop, length_canonical}
 use Rattle.write.specs.Write.{Wrote, wrote_whole}
 use Rattle.reading.specs.Promise.{reads}
 
-module _ (image out : List ℕ) where
-  pub copy_refused : {n p : ℕ} → reads image ≡ refused n p → copy_outcome image out ≡ record { given = outcome_of (refused n p); memory = out }
-  unfolding copy_outcome copying
-  copy_refused e = ap (λ m. copied m out) (stop _ e)
-
-  module _ (r : Reading) (e : reads image ≡ accepted r) where
-    pub copy_long : 2147483647 < copy_length r → copy_outcome image out ≡ record { given = outcome_of (refused 12 0); memory = out }
-    unfolding copy_outcome copying
-    copy_long h = ap (λ m. copied m out) (step _ e (stop _ (fail _ _ _ (lt-leb _ _ h))))
-
-    module _ (n : ℕ) (k : n ≡ copy_length r) (h : n ≤ 2147483647) where
-      pub copy_short : length out < n → copy_outcome image out ≡ record { given = outcome_of (refused 13 n); memory = out }
-      unfolding copy_outcome copying
-      copy_short l = rw k (ap (λ m. copied m out) (step _ e (step _ (pass _ _ _ (le-leb _ _ (rw k at h))) (stop _ (fail _ _ _ (lt-leb _ _ (rw k at l)))))))
-
-      pub copy_made : n ≤ length out → copy_outcome image out ≡ record { given = outcome_of (accepted n); memory = canonical_copy r ++ drop n out }
-      unfolding copy_outcome copying
-      copy_made l = rw k (ap (λ m. copied m out) (step _ e (step _ (pass _ _ _ (le-leb _ _ (rw k at h))) (step _ (pass _ _ _ (le-leb _ _ (rw k at l))) refl))))
-
-pub copy_left : {o o₁ : List ℕ} (r : Reading) (n : ℕ) → n ≡ copy_length r → WellFormed r → n ≤ length o → Wrote o o₁ 0 (canonical_copy r) → o₁ ≡ canonical_copy r ++ drop n o
-copy_left {o} r n k ok h w =
-    let e : length (canonical_copy r) ≡ n = length_canonical r ok ∙ sym k in
+copy_left : {o o₁ : List ℕ} (r : Reading) → WellFormed r → copy_length r ≤ length o → Wrote o o₁ 0 (canonical_copy r) → o₁ ≡ canonical_copy r ++ drop (copy_length r) o
+copy_left {o} r ok h w =
+    let e : length (canonical_copy r) ≡ copy_length r = length_canonical r ok in
     wrote_whole w (omega (arith, e)) ∙ ap (λ m. canonical_copy r ++ drop m o) e
 
--- a sum above the longest copy stands for a length above it
-pub capped_over : {r n : ℕ} → Capped r n → 2147483647 < r → 2147483647 < n
-capped_over {r} {n} c h = go (leb n 2147483647) refl
-  where
-    go : (t : Bool) → leb n 2147483647 ≡ t → 2147483647 < n
-    go true e = absurd (omega (arith, c.exact (leb-true n 2147483647 e), leb-true n 2147483647 e))
-    go false e = leb-false n 2147483647 e
+module _ (image out : List ℕ) where
+  abbrev Answers : Outcome ℕ → List ℕ → Type 0
+  Answers given memory = (given ≡ (copy_outcome image out).given) × (memory ≡ (copy_outcome image out).memory)
+
+  answers : {given : Outcome ℕ} {memory : List ℕ} → copy_outcome image out ≡ record { given = given; memory = memory } → Answers given memory
+  answers o = (sym (ap (λ (x : CopyOutcome). x.given) o), sym (ap (λ (x : CopyOutcome). x.memory) o))
+
+  pub copy_refused : {k p : ℕ} → reads image ≡ refused k p → Answers (outcome_of (refused k p)) out
+  unfolding copy_outcome copying
+  copy_refused e = answers (ap (λ m. copied m out) (stop _ e))
+
+  -- an accepted image, with the length of its copy as far as it is needed
+  module _ (r : Reading) (e : reads image ≡ accepted r) (n : ℕ) (c : Capped n (copy_length r)) where
+    fitting_as : fitting n (length out) ≡ fitting (copy_length r) (length out)
+    fitting_as = as_needed n (copy_length r) (length out) c.exact c.over
+
+    pub copy_unfit : {k p : ℕ} → fitting n (length out) ≡ refused k p → Answers (outcome_of (refused k p)) out
+    unfolding copy_outcome copying
+    copy_unfit h =
+        answers (ap (λ m. copied m out) (step _ e (both_tests (copy_length r) (length out) (accepted r) ∙ stop _ (sym fitting_as ∙ h))))
+
+    pub copy_made : {o : List ℕ} → WellFormed r → fitting n (length out) ≡ accepted tt → Wrote out o 0 (canonical_copy r) → Answers (outcome_of (accepted n)) o
+    unfolding copy_outcome copying
+    copy_made ok h w =
+        let l = within n (length out) h in
+        let k = capped_exact c l.0 in
+        let a = answers (ap (λ m. copied m out) (step _ e (both_tests (copy_length r) (length out) (accepted r) ∙ step _ (sym fitting_as ∙ h) refl))) in
+        (ap (λ m. outcome_of (accepted m)) k ∙ a.0, copy_left r ok (omega (arith, k, l.1)) w ∙ a.1)

@@ -3,24 +3,17 @@
 
 ghost use Rattle.std.specs.Prelude.{◌≡◌, ◌+◌, ◌≤◌, ◌<◌, length};
 ghost use Rattle.write.specs.Write.{Wrote};
-ghost use Rattle.answers.specs.Readings.{version, hd_written};
 ghost use Rattle.answers.specs.Copies.{copy_length, canonical_copy};
 ghost use Rattle.answers.specs.Outcomes.{copy_outcome};
 ghost use Rattle.reading.specs.Steps.{reading_of};
 ghost use Rattle.put_channels.specs.Channels.{SumIs};
 ghost use Rattle.copy.specs.Copying.{outcome, FrontIs, id_hd_bytes};
 
-use blocks::{Pr, Tx};
-use put_channels::Sum;
-use reading::{File, Reason, Refusal};
+use blocks::{HeaderLinks, Pr, Tx};
+use put_channels::{Sum, link_if};
+use reading::{File, Refusal};
 
 // ---- before the groups
-
-fn header_size(f: File) -> usize
-    ensures { (result ≡ hd_written (version (reading_of f.entry))) × (164 ≤ result) × (result ≤ 208) }
-{
-    blocks::hd_size(f.version())
-}
 
 #[derive(Clone, Copy)]
 struct Front<'a> {
@@ -35,7 +28,7 @@ struct Front<'a> {
 fn front_of<'a>(f: File<'a>) -> Front<'a>
     ensures { FrontIs result (reading_of f.entry) }
 {
-    let size = header_size(f);
+    let size = blocks::hd_size(f.version());
     let comment = f.comment();
     let program = f.program();
     let tx = 64 + size;
@@ -52,6 +45,7 @@ fn front_of<'a>(f: File<'a>) -> Front<'a>
 }
 
 // The length of the copy, and how many groups it has.
+#[tactic(auto, unfolding(answers::specs::Copies::copy_length))]
 fn needed(f: File) -> Sum
     ensures { SumIs result (copy_length (reading_of f.entry)) (length (reading_of f.entry).groups) }
 {
@@ -68,23 +62,24 @@ fn put_id_hd(out: &mut [u8], f: File, front: Front, count: usize)
 {
     write::put_all(out, 0, f.ident());
     let carried = f.fields();
-    let first = put_groups::link_if(count, front.first);
-    let tx = put_channels::body_link(front.comment, front.tx);
-    let pr = put_channels::body_link(front.program, front.pr);
+    let links = HeaderLinks {
+        first: link_if(count != 0, front.first),
+        comment: link_if(front.comment.is_some(), front.tx),
+        program: link_if(front.program.is_some(), front.pr),
+    };
     blocks::put_hd(
         out,
         64,
+        front.size,
+        links,
+        count,
         carried.main,
         carried.later,
-        front.size,
-        first,
-        tx,
-        pr,
-        count,
     );
 }
 
 // The whole copy, where there is room for it.
+#[tactic(auto, unfolding(answers::specs::Copies::copy_length))]
 fn put_file(out: &mut [u8], f: File, count: usize)
     requires { (count ≡ length (reading_of f).groups) × (copy_length (reading_of f) ≤ 2147483647) × (copy_length (reading_of f) ≤ length out.old) }
     ensures { Wrote out.old out.new 0 (canonical_copy (reading_of f.entry)) }
@@ -102,12 +97,7 @@ pub fn copy(image: &[u8], out: &mut [u8]) -> Result<usize, Refusal>
 {
     let f = reading::open(image)?;
     let sum = needed(f);
-    if 2147483647 < sum.length {
-        return Err(Reason::CopyTooLong.at(0));
-    }
-    if out.len() < sum.length {
-        return Err(Reason::NoRoom.at(sum.length));
-    }
+    refusal::fits(sum.length, out.len())?;
     put_file(out, f, sum.count);
     Ok(sum.length)
 }

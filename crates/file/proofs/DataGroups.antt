@@ -17,15 +17,14 @@ use Rattle.spec.proofs.Answers.{step, stop}
 use Rattle.refusal.specs.declared.Reason.{Reason}
 use Rattle.image.specs.declared.Block.TheVariants.{Shut}
 use Rattle.image.specs.declared.Span.{Span}
-use Rattle.image.specs.declared.Block.{Block}
 use Rattle.std.specs.Prelude.{Result, Ok, Err}
 use Rattle.refusal.specs.declared.Refusal.{Refusal}
 use Rattle.refusal.specs.Refused.{number_of, done}
 use Rattle.image.specs.Spans.{block_of, block_in, opened_as}
-use Rattle.image.proofs.Blocks.{not_nil, Stands, open_open}
+use Rattle.image.proofs.Blocks.{not_nil, Stands, open_open, open_shut}
 use Rattle.walk.specs.Steps.{◌then◌}
 use Rattle.walk.specs.Lists.{Summary, summed, groups_from}
-use Rattle.walk.proofs.Channels.{then_left, then_right, found_refused}
+use Rattle.walk.proofs.Channels.{then_left, then_right}
 use Rattle.walk.proofs.GroupList.{then_bind, seen_then}
 use Rattle.file.specs.DataGroups.{Counts, groups_then_log, data_group_at, data_groups_from}
 
@@ -117,12 +116,11 @@ module _ (image : Image) (field l d g n : ℕ) where
     data_groups_full e = rw (e, not_nil l h)
 
     module _ (m : d < 1024) where
-      pub data_groups_shut : {r : Reason} {x : Block} → x ≡ block_of l (opening dg_kind image l) → x ≡ Shut r
-          → data_groups_from image field l d g n ≡ refused (number_of r) field
+      pub data_groups_shut : {r : Reason} → Shut r ≡ block_of l (opening dg_kind image l) → data_groups_from image field l d g n ≡ refused (number_of r) field
       unfolding data_groups_from data_group_list
-      data_groups_shut o e =
+      data_groups_shut o =
           let one : 1024 - d ≡ suc (1024 - (d + 1)) = omega arith in
-          rw (not_nil l h, one) (ap passed (stop _ (found_refused dg_kind read_dg image field l o e)))
+          rw (not_nil l h, one) (ap passed (stop _ (open_shut dg_kind read_dg image field l o)))
 
       module _ (b : Span) (s : Stands dg_kind image l b) where
         turn : data_groups_from image field l d g n ≡ (data_group_at image g n b >>= onwards image d g n b)

@@ -18,7 +18,6 @@ use Rattle.spec.proofs.Answers.{step, pass, stop, fail}
 use Rattle.refusal.specs.declared.Reason.{Reason}
 use Rattle.image.specs.declared.Block.TheVariants.{Shut}
 use Rattle.image.specs.declared.Span.{Span}
-use Rattle.image.specs.declared.Block.{Block}
 use Rattle.std.specs.Prelude.{Result, Ok, Err}
 use Rattle.std.proofs.Common.{Ordering, Less, Equal, Greater}
 use Rattle.std.specs.Ordering.{is_le, nat_cmp, MatchOrdering}
@@ -26,9 +25,9 @@ use Rattle.std.specs.Cmp.{ranks}
 use Rattle.refusal.specs.declared.Refusal.{Refusal}
 use Rattle.refusal.specs.Refused.{number_of, done}
 use Rattle.image.specs.Spans.{block_of, block_in}
-use Rattle.image.proofs.Blocks.{Stands, open_open}
+use Rattle.image.proofs.Blocks.{Stands, open_open, open_shut}
 use Rattle.walk.specs.Steps.{◌then◌}
-use Rattle.walk.proofs.Channels.{then_left, then_right, then_fail, then_pass, is_link, is_none, found_refused}
+use Rattle.walk.proofs.Channels.{then_left, then_right, then_fail, then_pass, is_link, is_none}
 use Rattle.file.specs.DataGroups.{groups_then_log, data_group_at, data_groups_from}
 use Rattle.file.proofs.DataGroups.{passed_then, passed_test}
 
@@ -127,20 +126,26 @@ passed_last f (refused k p) = refl
 passed_last f (accepted a) = refl
 
 module _ (image : Image) (ident : List ℕ) where
-  pub header_shut : {r : Reason} {x : Block} → x ≡ block_of 64 (opening hd_kind image 64) → x ≡ Shut r
-      → refused (number_of r) 64 ≡ passed (file_from image ident)
+  pub header_shut : {r : Reason} → Shut r ≡ block_of 64 (opening hd_kind image 64) → refused (number_of r) 64 ≡ passed (file_from image ident)
   unfolding file_from
-  header_shut o e = sym (ap passed (stop _ (found_refused hd_kind (read_hd image.version) image 64 64 o e)))
+  header_shut o = sym (ap passed (stop _ (open_shut hd_kind (read_hd image.version) image 64 64 o)))
 
   module _ (b : Span) (s : Stands hd_kind image 64 b) where
-    pub header_is : (passed (body_at tx_kind image 72 (to_link (u32 8 (block_in image.bytes b))))
-        then passed (body_at pr_kind image 76 (to_link (u32 12 (block_in image.bytes b))))
-        then data_groups_from image 68 (u32 4 (block_in image.bytes b)) 0 0 0)
-        ≡ passed (file_from image ident)
+    -- its links, where it stands at p
+    abbrev followed : ℕ → Answer (Unit {0})
+    followed p =
+        passed (body_at tx_kind image (p + 8) (to_link (u32 8 (block_in image.bytes b))))
+        then passed (body_at pr_kind image (p + 12) (to_link (u32 12 (block_in image.bytes b))))
+        then data_groups_from image (p + 4) (u32 4 (block_in image.bytes b)) 0 0 0
+
+    at_64 : followed 64 ≡ passed (file_from image ident)
     unfolding file_from data_groups_from read_hd
-    header_is =
+    at_64 =
         sym (ap passed (step _ (open_open hd_kind (read_hd image.version) image 64 64 b s) refl)
         ∙ passed_then _ _ _ (λ x. passed_then _ _ _ (λ y. passed_last _ _)))
+
+    pub header_is : followed b.at ≡ passed (file_from image ident)
+    header_is = ap followed s.place ∙ at_64
 
 -- ---- the whole image
 

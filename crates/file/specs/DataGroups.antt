@@ -39,7 +39,7 @@ counts_met = answer_of (λ (d : Cursor). record { groups = d.cgs; channels = d.c
 -- past the data group in b
 abbrev pub PastDataGroup : List ℕ → Cursor → Span → Result Cursor Refusal → Type 0
 PastDataGroup image c b (Ok d) =
-    (d.field ≡ b.at + 4) × (d.link ≡ u32 4 (block_in image b)) × (d.dgs ≡ c.dgs + 1) × (d.cgs ≤ 1024) × (d.cns ≤ 16384)
+    (d.link.field ≡ b.at + 4) × (d.link.to ≡ u32 4 (block_in image b)) × (d.dgs ≡ c.dgs + 1) × (d.cgs ≤ 1024) × (d.cns ≤ 16384)
 PastDataGroup image c b (Err e) = Unit {0}
 
 -- from a link on, with d data groups, g channel groups and n channels before

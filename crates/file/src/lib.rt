@@ -7,68 +7,61 @@ ghost use Rattle.spec.specs.Block.{image_of};
 ghost use Rattle.spec.specs.Walk.{ident_passes, file_from};
 ghost use Rattle.spec.specs.Call.{check_outcome};
 ghost use Rattle.refusal.specs.Refused.{done};
-ghost use Rattle.image.specs.Spans.{Holds};
 ghost use Rattle.file.specs.DataGroups.{groups_then_log, data_group_at, counts_met, PastDataGroup, data_groups_from, outcome};
 
-use image::{Block, Dg, Hd, Id, Kind, Pr, Span, Tx};
+use image::{Block, Dg, Hd, Id, Kind, Opened, Pr, Tx};
 use records::Slot;
-use refusal::{Reason, Refusal};
-use walk::Cursor;
+use refusal::{LONGEST, Reason, Refusal};
+use walk::{Cursor, MOST_GROUPS};
 
 // ---- data groups
 
-// The channel groups of a data group in this mode, then its records: past it, the cursor stands at its next link.
-fn groups_then_log(image: &[u8], dg: Span, mode: usize, c: Cursor) -> Result<Cursor, Refusal>
-    requires { Holds 24 image.now dg × (mode ≤ 2) × (c.dgs < 1024) × (c.cgs ≤ 1024) × (c.cns ≤ 16384) }
-    ensures { (counts_met result ≡ groups_then_log (image_of image.now) mode c.cgs c.cns dg) × PastDataGroup image.now c dg result }
+// The channel groups of a data group in this mode (so many ID bytes a record has), then its records: past it, the cursor stands at its next link.
+fn groups_then_log(dg: Opened<Dg>, mode: usize, c: Cursor) -> Result<Cursor, Refusal>
+    requires { (mode ≤ 2) × (c.dgs < 1024) × (c.cgs ≤ 1024) × (c.cns ≤ 16384) }
+    ensures { (counts_met result ≡ groups_then_log (image_of dg.entry.image.now) mode c.cgs c.cns dg.entry.span) × PastDataGroup dg.entry.image.now c dg.entry.span result }
 {
-    let at = dg.at;
-    let mut slots = [Slot {
-        id: 0,
-        size: 0,
-        count: 0,
-    }; 1024];
-    let first = c.down(at + 8, image::u32_in(image, dg, 8));
-    let d = walk::group_list(image, mode, first, &mut slots)?;
+    let mut slots = [Slot::default(); MOST_GROUPS];
+    let first = c.down(dg.link(8));
+    let d = walk::group_list(dg.image, mode, first, &mut slots)?;
     let n = d.cgs - c.cgs;
-    let data = image::u32_in(image, dg, 16);
-    records::log(image, mode, at + 16, data, &slots[..n])?;
-    Ok(d.past_dg(at + 4, image::u32_in(image, dg, 4)))
+    records::log(dg.image, mode, dg.link(16), &slots[..n])?;
+    Ok(d.past_dg(dg.link(4)))
 }
 
 // A data group: no trigger, a mode, then what it holds.
-fn data_group(image: &[u8], dg: Span, c: Cursor) -> Result<Cursor, Refusal>
-    requires { Holds 24 image.now dg × (c.dgs < 1024) × (c.cgs ≤ 1024) × (c.cns ≤ 16384) }
-    ensures { (counts_met result ≡ data_group_at (image_of image.now) c.cgs c.cns dg) × PastDataGroup image.now c dg result }
+fn data_group(dg: Opened<Dg>, c: Cursor) -> Result<Cursor, Refusal>
+    requires { (c.dgs < 1024) × (c.cgs ≤ 1024) × (c.cns ≤ 16384) }
+    ensures { (counts_met result ≡ data_group_at (image_of dg.entry.image.now) c.cgs c.cns dg.entry.span) × PastDataGroup dg.entry.image.now c dg.entry.span result }
 {
-    let at = dg.at;
-    if image::u32_in(image, dg, 12) != 0 {
-        return Err(Reason::Unsupported.at(at + 12));
+    let trigger = dg.link(12);
+    if trigger.to != 0 {
+        return Err(Reason::Unsupported.at(trigger.field));
     }
-    let mode = image::u16_in(image, dg, 22);
+    let mode = dg.u16(22);
     if 2 < mode {
-        return Err(Reason::RecordId.at(at + 22));
+        return Err(Reason::RecordId.at(dg.span.at + 22));
     }
-    groups_then_log(image, dg, mode, c)
+    groups_then_log(dg, mode, c)
 }
 
 // The data groups from the cursor's link on.
 fn data_groups(image: &[u8], start: Cursor) -> Result<(), Refusal>
     requires { (start.dgs ≤ 1024) × (start.cgs ≤ 1024) × (start.cns ≤ 16384) }
-    ensures { done result ≡ data_groups_from (image_of image.now) start.field start.link start.dgs start.cgs start.cns }
+    ensures { done result ≡ data_groups_from (image_of image.now) start.link.field start.link.to start.dgs start.cgs start.cns }
 {
     let mut c = start;
-    // along links, so no range of a `for`
-    while c.link != 0 {
-        let field = c.field;
-        if c.dgs == 1024 {
+    // No `for`: the cursor goes by value, along links to a nil one. And not one function for all lists: each tests other things on its way.
+    while c.link.to != 0 {
+        let field = c.link.field;
+        if c.dgs == MOST_GROUPS {
             return Err(Reason::TooMany.at(field));
         }
-        let opened = Dg::open(image, c.link);
+        let opened = Dg::open(image, c.link.to);
         let Block::Open(dg) = opened else {
             return Err(opened.refused(field));
         };
-        c = data_group(image, dg, c)?;
+        c = data_group(dg, c)?;
     }
     Ok(())
 }
@@ -105,18 +98,19 @@ fn header(image: &[u8]) -> Result<(), Refusal>
     let Block::Open(hd) = opened else {
         return Err(opened.refused(64));
     };
-    Tx::body(image, 72, image::u32_in(image, hd, 8))?;
-    Pr::body(image, 76, image::u32_in(image, hd, 12))?;
-    data_groups(image, Cursor::new(68, image::u32_in(image, hd, 4)))
+    Tx::body(image, hd.link(8))?;
+    Pr::body(image, hd.link(12))?;
+    data_groups(image, Cursor::new(hd.link(4)))
 }
 
 // Whether an image is accepted; if not, the first refusal of 1 to 11 and 17 to 19 with its place.
 pub fn check(image: &[u8]) -> Result<(), Refusal>
     ensures { outcome result ≡ check_outcome image.now }
 {
-    if 2147483647 < image.len() {
+    if LONGEST < image.len() {
         return Err(Reason::TooLong.at(0));
     }
+    // `Id::open` tests this too: here it is what `ident` asks for, whose promise is of the first 64 bytes.
     if image.len() < Id::LEAST {
         return Err(Reason::NoMdf.at(0));
     }

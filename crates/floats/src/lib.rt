@@ -1,4 +1,5 @@
-// Numbers in floating point: from their bits and to them, from integers, and the linear conversion.
+// Numbers in floating point: from their bits and to them, from integers, and the linear conversion. Most do what one call of the
+// library does, and say it in the words of our definitions.
 #![tactic(auto)]
 
 ghost use Rattle.std.specs.Prelude.{◌≡◌, pos, from_bits, to_bits};
@@ -38,6 +39,7 @@ pub fn is_finite(x: f64) -> bool
 
 // ---- integers
 
+// Two functions for the reason at `single_of`: the library has one call for each type here too.
 pub fn of_unsigned(n: u64) -> f64
     ensures { result ≡ of_int binary64 (pos n) }
 {

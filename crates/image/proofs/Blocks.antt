@@ -20,7 +20,7 @@ use Rattle.image.specs.declared.Block.{Block}
 use Rattle.image.specs.declared.Block.TheVariants.{Open, Shut}
 use Rattle.refusal.specs.declared.Reason.{Reason}
 use Rattle.refusal.specs.Refused.{number_of, reason_of}
-use Rattle.image.specs.Spans.{block_of, IsShut, block_in, Inside, opened_as}
+use Rattle.image.specs.Spans.{block_of, seen, IfOpen, block_in, Inside, opened_as}
 
 pub not_nil : (p : ℕ) → (p ≡ 0 → ⊥) → to_link p ≡ some p
 not_nil zero h = absurd (h refl)
@@ -29,7 +29,7 @@ not_nil (suc p) h = refl
 -- ---- a block that does not open is refused with the number of its reason
 
 -- the number of the reason of a block that is shut
-reason_number : Block → ℕ
+unfoldable pub reason_number : Block Span → ℕ
 reason_number (Open b) = 0
 reason_number (Shut r) = number_of r
 
@@ -48,8 +48,16 @@ shut_is k image p {r} = go (opening k image p) refl
         o ∙ rw (a, f.1)
     go (accepted x) o e = let z : ◌≡◌ {A = ℕ} 0 1 = cc in absurd (omega arith)
 
-pub shut : {x : Block} {r : Reason} → x ≡ Shut r → IsShut x
-shut e = rw e tt
+-- ---- what is seen of a block
+
+pub seen_shut : {A B : Type 0} {x : Block A} {y : Block B} (view : A → B) {r : Reason} → seen x view ≡ y → x ≡ Shut r → Shut r ≡ y
+seen_shut view s e = sym (ap (λ b. seen b view) e) ∙ s
+
+pub seen_open : {A B : Type 0} {x : Block A} {y : Block B} (view : A → B) {b : A} → seen x view ≡ y → x ≡ Open b → Open (view b) ≡ y
+seen_open view s e = sym (ap (λ b. seen b view) e) ∙ s
+
+pub if_open : {A : Type 0} {x : Block A} (P : A → Type 0) {b : A} → IfOpen x P → x ≡ Open b → P b
+if_open P i e = rw e at i
 
 -- ---- a block that opens
 
@@ -80,6 +88,11 @@ stands k image p b = go (opening k image p) refl
         let s = (opening_stands k image p).given x o in
         let i : b ≡ record { at = p; size = length x } = cc in
         rw i (record { is = o ∙ ap accepted s.0; place = refl; inside = s.1; least = s.2 })
+
+-- the same of a block in its image
+pub opened_stands : (k : Kind) (image : Image) (p : ℕ) {A : Type 0} (view : A → Span) {x : Block A} {b : A}
+    → seen x view ≡ block_of p (opening k image p) → x ≡ Open b → Stands k image p (view b)
+opened_stands k image p view {b = b} s e = stands k image p (view b) (seen_open view s e)
 
 module _ {A : Type 0} (k : Kind) (read : List ℕ → A) (image : Image) (link_field p : ℕ) where
   pub open_shut : {r : Reason} → Shut r ≡ block_of p (opening k image p) → open_as k read image link_field p ≡ refused (number_of r) link_field

@@ -4,9 +4,8 @@ use Prim.Native.Nat.{ℕ, zero, suc, ◌+◌, ◌≤◌, ◌<◌}
 use mathlib.Core.Path.{◌≡◌, refl, sym, ◌∙◌, ap}
 use mathlib.Core.List.{List, [], ◌∷◌}
 use native.Mathlib.Omega.{arith}
-use native.Mathlib.Numerals.{add-one}
-use lib.ListN.{length, take, drop, get_or, replicate, length-drop}
-use lib.Seq.{drop-cons, drop-drop, get_or-take, take-take, length-take-le}
+use lib.ListN.{length, take, drop, replicate, length-drop}
+use lib.Seq.{drop-drop, take-take, length-take-le}
 use borrow.Author.Tests.{lt-leb}
 use Rattle.spec.specs.Bytes.{number, field}
 use Rattle.spec.proofs.Places.{field_in}
@@ -18,12 +17,6 @@ drop_take zero n size xs h = take-take n size xs (omega arith)
 drop_take (suc off) n zero xs h = absurd (omega arith)
 drop_take (suc off) n (suc size) [] h = refl
 drop_take (suc off) n (suc size) (x ∷ xs) h = drop_take off n size xs (omega arith)
-
--- what is left of the first n at i begins with the i-th
-pub part_next : (n i : ℕ) (xs : List ℕ) → n ≤ length xs → i < n → drop i (take n xs) ≡ get_or xs i 0 ∷ drop (i + 1) (take n xs)
-part_next n i xs l h =
-    let e : i < length (take n xs) = omega (arith, length-take-le n xs l) in
-    drop-cons (take n xs) i 0 e ∙ rw (get_or-take n xs i 0 h, add-one i)
 
 number_zeros : (n : ℕ) → number (replicate n 0) ≡ 0
 number_zeros zero = refl

@@ -15,12 +15,12 @@ use Rattle.spec.specs.Block.{finalized, unfinalized, image_of}
 use Rattle.spec.proofs.Places.{field_in}
 use Rattle.image.specs.declared.Span.{Span}
 use Rattle.image.specs.declared.Block.TheVariants.{Open, Shut}
-use Rattle.image.specs.declared.Block.{Block}
 use Rattle.refusal.specs.declared.Reason.{Reason}
 use Rattle.refusal.specs.declared.Reason.TheVariants.{NoMdf, Unfinalized}
 use Rattle.refusal.specs.Refused.{number_of}
 use Rattle.image.specs.Spans.{number_at, block_in, Inside, ident_block}
 use Rattle.image.proofs.Fields.{drop_take}
+use Rattle.image.proofs.Blocks.{reason_number}
 
 -- ---- its identifier
 
@@ -32,11 +32,6 @@ begins_with (x ∷ xs) [] = refl
 begins_with (x ∷ xs) (y ∷ ys) = rw (eqb_turned y x, begins_with xs ys)
 
 -- ---- its opening
-
--- the number of the reason of a block that is shut
-reason_number : Block → ℕ
-reason_number (Open b) = 0
-reason_number (Shut r) = number_of r
 
 module _ (b : List ℕ) where
   pub ident_short : length b < 64 → Shut NoMdf ≡ ident_block b

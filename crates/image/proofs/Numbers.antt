@@ -1,46 +1,50 @@
 -- Laws of numbers of bytes, over the width.
 -- Assumes nothing.
-use Prim.Native.Nat.{ℕ, zero, suc, ◌+◌, ◌*◌, ◌-◌, ◌^◌, ◌≤◌, ◌<◌}
-use mathlib.Core.Path.{◌≡◌, refl}
-use mathlib.Core.List.{List, [], ◌∷◌}
+use Prim.Native.Nat.{ℕ, zero, suc, ◌+◌, ◌^◌, ◌≤◌, ◌<◌}
+use mathlib.Core.Path.{◌≡◌, refl, ap}
+use mathlib.Core.List.{List, [], ◌∷◌, ◌++◌, map, reverse}
 use native.Mathlib.Omega.{arith}
 use native.Mathlib.Nat.{pow-suc, lt_of_lt_of_le, pow-le-pow_right}
 use lib.Dec.{lit<}
-use lib.ListN.{length, get_or, drop_of_length-le}
-use lib.Seq.{take-nil, drop-nil}
+use lib.ListN.{length, take, drop, drop_of_length-le}
+use lib.Seq.{take-nil}
+use Rattle.spec.specs.Bytes.{number}
+use Rattle.std.proofs.Common.{Bor}
+use Rattle.std.proofs.lemmas.List.{length-append, length-reverse, length-map, length-take}
 use Rattle.image.specs.Spans.{number_at}
 
--- one byte more at the low end
-pub number_step : (image : List ℕ) (at n : ℕ) → number_at image at (suc n) ≡ get_or image at 0 + 256 * number_at image (suc at) n
+-- the bytes that were read from the last on, in the list's order
+abbrev pub read_back : List (Bor ℕ) → List ℕ
+read_back ys = reverse (map (λ (x : Bor ℕ). x.now) ys)
+
+-- no more than n bytes are left and read
+pub read_fits : (left image : List ℕ) (ys : List (Bor ℕ)) (at n : ℕ) → left ++ read_back ys ≡ take n (drop at image) → length left + length ys ≤ n
+read_fits left image ys at n e =
+    let l : length (left ++ read_back ys) ≤ n = rw e (rw length-take (omega arith)) in
+    let m : length (read_back ys) ≡ length ys = rw (length-reverse, length-map) refl in
+    omega (arith, rw (length-append, m) at l)
+
+-- once none is left
+pub all_read : (left image : List ℕ) (ys : List (Bor ℕ)) (at n : ℕ) → length left ≡ 0 → left ++ read_back ys ≡ take n (drop at image) → number (read_back ys) ≡ number_at image at n
 unfolding number_at
-number_step [] at n = rw (drop-nil at, drop-nil (suc at), take-nil n)
-number_step (x ∷ xs) zero n = refl
-number_step (x ∷ xs) (suc at) n = number_step xs at n
+all_read [] image ys at n z e = ap number e
+all_read (x ∷ left) image ys at n z e = absurd (omega arith)
 
--- the loop's turn: k falls by one
-pub number_turn : (image : List ℕ) (at n k : ℕ) → 0 < k → k ≤ n
-    → number_at image (at + (k - 1)) (n - (k - 1)) ≡ 256 * number_at image (at + k) (n - k) + get_or image (at + (k - 1)) 0
-number_turn image at n k h g =
-    let e : n - (k - 1) ≡ suc (n - k) = omega arith in
-    let f : suc (at + (k - 1)) ≡ at + k = omega arith in
-    rw (e, number_step image (at + (k - 1)) (n - k), f) (omega arith)
+-- as long as a byte is left, the number has room for it
+pub read_small : (left more image : List ℕ) (x : ℕ) (ys : List (Bor ℕ)) (at n v : ℕ) → left ≡ more ++ x ∷ []
+    → left ++ read_back ys ≡ take n (drop at image) → n ≤ 8 → v < 256 ^ length ys → v < 256 ^ 7
+read_small left more image x ys at n v s e h l =
+    let p : length left ≡ length more + 1 = rw s (length-append more (x ∷ [])) in
+    let f = read_fits left image ys at n e in
+    lt_of_lt_of_le l (pow-le-pow_right (lit< tt) {i = length ys} {j = 7} (omega arith))
 
-pub width_turn : (n k : ℕ) → 0 < k → k ≤ n → 256 ^ (n - (k - 1)) ≡ 256 * 256 ^ (n - k)
-width_turn n k h g =
-    let f : n - (k - 1) ≡ suc (n - k) = omega arith in
-    rw (f, pow-suc) (omega arith)
+pub width_most : (n k v : ℕ) → k ≤ n → v < 256 ^ k → v < 256 ^ n
+width_most n k v h l = lt_of_lt_of_le l (pow-le-pow_right (lit< tt) {i = k} {j = n} h)
 
-pub width_small : (n k v : ℕ) → n ≤ 8 → 0 < k → v < 256 ^ (n - k) → v < 256 ^ 7
-width_small n k v h g l = lt_of_lt_of_le l (pow-le-pow_right (lit< tt) {i = n - k} {j = 7} (omega arith))
-
--- past the end, and of no byte
+-- past the end
 pub number_past : (image : List ℕ) (at n : ℕ) → length image ≤ at → number_at image at n ≡ 0
 unfolding number_at
 number_past image at n h = rw (drop_of_length-le image h, take-nil n)
-
-pub number_none : (image : List ℕ) (at : ℕ) → number_at image at 0 ≡ 0
-unfolding number_at
-number_none image at = refl
 
 pub width_pos : (n : ℕ) → 0 < 256 ^ n
 width_pos zero = omega arith

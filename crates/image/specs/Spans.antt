@@ -1,6 +1,6 @@
 -- What the functions on blocks give, as the definitions of `spec` say it.
 -- Assumes nothing.
-use Rattle.std.specs.Prelude.{ℕ, ◌+◌, ◌/◌, ◌%◌, ◌≤◌, ◌&&◌, cond, List, leb, length, take, drop}
+use Rattle.std.specs.Prelude.{ℕ, ◌+◌, ◌≤◌, ◌&&◌, cond, List, leb, length, get_or, take, drop}
 use Rattle.spec.specs.Bytes.{same_bytes, number, field}
 use Rattle.spec.specs.Answer.{Answer, refused, accepted}
 use Rattle.spec.specs.Block.{Kind, Opened, finalized, unfinalized}
@@ -14,17 +14,27 @@ use Rattle.refusal.specs.Refused.{reason_of}
 unfoldable pub number_at : List ℕ → ℕ → ℕ → ℕ
 number_at image at n = number (take n (drop at image))
 
--- a kind by its identifier as a number
-abbrev pub kind_of : ℕ → ℕ → Kind
-kind_of id least = record { first = id % 256; second = id / 256; least = least }
+-- a kind by its identifier and its least size
+abbrev pub kind_of : List ℕ → ℕ → Kind
+kind_of id least = record { first = get_or id 0 0; second = get_or id 1 0; least = least }
 
 -- an opening's answer as the code gives it
-abbrev pub block_of : ℕ → Answer (List ℕ) → Block
+abbrev pub block_of : ℕ → Answer (List ℕ) → Block Span
 block_of at (refused n p) = Shut (reason_of n)
 block_of at (accepted block) = Open (record { at = at; size = length block })
 
+-- a block by what is seen of it where it is open
+abbrev pub seen : {A B : Type 0} → Block A → (A → B) → Block B
+seen (Open b) view = Open (view b)
+seen (Shut r) view = Shut r
+
+-- a property of a block where it is open
+abbrev pub IfOpen : {A : Type 0} → Block A → (A → Type 0) → Type 0
+IfOpen (Open b) P = P b
+IfOpen (Shut r) P = Unit {0}
+
 -- a block that did not open
-abbrev pub IsShut : Block → Type 0
+abbrev pub IsShut : {A : Type 0} → Block A → Type 0
 IsShut (Open b) = ⊥
 IsShut (Shut r) = Unit {0}
 
@@ -49,7 +59,7 @@ abbrev pub opened_as : {A : Type 0} → (List ℕ → A) → List ℕ → Span �
 opened_as read image b = record { place = b.at; size = b.size; content = read (block_in image b) }
 
 -- ID: the first 64 bytes, where they are there and begin with the identifier. Else it is 2, or 3 where they begin with that of an unfinalized file
-unfoldable pub ident_block : List ℕ → Block
+unfoldable pub ident_block : List ℕ → Block Span
 ident_block image =
     cond (leb 64 (length image) && same_bytes (take 8 image) finalized)
     (Open (record { at = 0; size = 64 }))

@@ -1,17 +1,19 @@
 // Numbers, blocks and their fields. A block may be looked for at any place; a byte beyond the image's end reads as 0.
 #![tactic(auto)]
 
-ghost use Rattle.std.specs.Prelude.{◌≡◌, ℕ, ◌+◌, ◌^◌, ◌≤◌, ◌<◌, length, get_or};
+ghost use Rattle.std.specs.Prelude.{◌≡◌, ℕ, ◌+◌, ◌^◌, ◌≤◌, ◌<◌, List, [], ◌∷◌, length, get_or};
 ghost use Rattle.spec.specs.Bytes.{u16, u32, u64, to_link};
 ghost use Rattle.spec.specs.Answer.{passed};
 ghost use Rattle.spec.specs.Block.{image_of, opening, body_at};
 ghost use Rattle.refusal.specs.Refused.{done};
 ghost use Rattle.refusal.specs.declared.Reason.{Reason};
 ghost use Rattle.image.specs.declared.Block.TheVariants.{Shut};
-ghost use Rattle.std.proofs.Common.{rules};
-ghost use Rattle.image.specs.Spans.{number_at, kind_of, block_of, IsShut, block_in, Inside, field_number, ident_block};
+ghost use Rattle.image.specs.Heads.{holds_head};
+ghost use Rattle.image.specs.Spans.{number_at, kind_of, block_of, seen, IfOpen, IsShut, block_in, Inside, Holds, field_number, ident_block};
 
 use refusal::{Reason, Refusal};
+use std::alloc::AllocError;
+use std::marker::PhantomData;
 
 // ---- numbers
 
@@ -29,18 +31,18 @@ pub fn number(image: &[u8], at: usize, n: usize) -> u64
     requires { n ≤ 8 }
     ensures { (result ≡ number_at image.now at n) × (result < 256 ^ n) }
 {
-    // so that no place below can wrap
-    if image.len() <= at {
+    let Some(rest) = image.get(at..) else {
         return 0;
-    }
+    };
+    let held = &rest[..n.min(rest.len())];
     let mut v: u64 = 0;
-    for k in (0..n).rev() {
-        v = v * 256 + byte(image, at + k);
+    for x in held.iter().rev() {
+        v = v * 256 + u64::from(*x);
     }
     v
 }
 
-// The version that ID gives; 0 where the image does not hold it whole.
+// The version that ID gives; 0 where the image does not hold it whole. `as` from `u64`, here and below: the library has no `From` to `usize`.
 pub fn version(image: &[u8]) -> usize
     ensures { result ≡ (image_of image.now).version }
 {
@@ -52,21 +54,43 @@ pub fn version(image: &[u8]) -> usize
 
 // ---- blocks
 
-// Where an opened block stands, and its size.
+// Where a block stands, and its size.
 #[derive(Clone, Copy)]
 pub struct Span {
     pub at: usize,
     pub size: usize,
 }
 
+// An opened block in its image. Its kind says the least size of its span.
+pub struct Opened<'a, K: Kind> {
+    pub image: &'a [u8],
+    pub span: Span,
+    kind: PhantomData<K>,
+    ghost holds: { Holds K.LEAST image.now span },
+}
+
+// By hand: a derive is refused over a ghost field that speaks of a type parameter.
+impl<'a, K: Kind> Clone for Opened<'a, K> {
+    ghost is_clone = { λ x y. y ≡ x };
+
+    ghost is_infallible = { λ _. Unit {0} };
+
+    fn clone(&self) -> Result<Self, AllocError> {
+        Ok(*self)
+    }
+}
+
+impl<'a, K: Kind> Copy for Opened<'a, K> {}
+
 // Open, or shut for a reason. An enum of its own and no `Result`, for each link is followed by `let Block::Open(..) = .. else`.
+// What stands in an open one is a parameter: a block in its image, or its span alone.
 #[derive(Clone, Copy)]
-pub enum Block {
-    Open(Span),
+pub enum Block<B> {
+    Open(B),
     Shut(Reason),
 }
 
-impl Block {
+impl<B: Copy> Block<B> {
     // The refusal of a block that is shut, at the field of the link that leads to it.
     pub fn refused(self, field: usize) -> Refusal
         requires { IsShut self }
@@ -79,14 +103,21 @@ impl Block {
     }
 }
 
-// The block at a place, or why it does not open: its identifier as a number of two bytes, its least size.
-fn open_block(image: &[u8], at: usize, id: u64, least: usize) -> Block
+// A field that holds a link, and the place that it leads to: 0 is nil, as in the file.
+#[derive(Clone, Copy)]
+pub struct Link {
+    pub field: usize,
+    pub to: usize,
+}
+
+// The block with this identifier and of at least this size at a place, or why none opens there.
+fn open_block(image: &[u8], at: usize, id: [u8; 2], least: usize) -> Block<Span>
     ensures { result ≡ block_of at (opening (kind_of id least) (image_of image.now) at) }
 {
     if image.len() < 4 || image.len() - 4 < at {
         return Block::Shut(Reason::BlockHead);
     }
-    if number(image, at, 2) != id {
+    if !image[at..].starts_with(&id) {
         return Block::Shut(Reason::BlockIdentifier);
     }
     let size = number(image, at + 2, 2) as usize;
@@ -101,7 +132,7 @@ fn open_block(image: &[u8], at: usize, id: u64, least: usize) -> Block
 
 // ---- fields of an opened block
 
-// A field of n bytes as a number: zero where the block does not hold it whole.
+// A field of n bytes as a number: zero where the block does not hold it whole. An offset is below 65536, as a block's size is, so no sum wraps.
 fn number_in(image: &[u8], b: Span, offset: usize, n: usize) -> u64
     requires { (n ≤ 8) × (offset < 65536) × Inside image.now b }
     ensures { (result ≡ field_number image.now b offset n) × (result < 256 ^ n) }
@@ -113,7 +144,7 @@ fn number_in(image: &[u8], b: Span, offset: usize, n: usize) -> u64
     number(image, at + offset, n)
 }
 
-// One for each width: with it goes what the number is below.
+// One for each width, as the definitions have.
 pub fn u16_in(image: &[u8], b: Span, offset: usize) -> usize
     requires { (offset < 65536) × Inside image.now b }
     ensures { (result ≡ u16 offset (block_in image.now b)) × (result < 65536) }
@@ -135,38 +166,85 @@ pub fn u64_in(image: &[u8], b: Span, offset: usize) -> u64
     number_in(image, b, offset, 8)
 }
 
-// ---- the kinds of block: identifier as a number of two bytes, least and written size. Those without a written size are written at their own.
+// The same of a block with its image. Those above are for a span alone: ID has no `Kind`, and a cursor of `reading` holds its image once.
+impl<'a, K: Kind> Opened<'a, K> {
+    ghost use Rattle.image.specs.Opened.{bytes_of};
 
-pub trait Kind {
-    ghost ID: { ℕ };
+    pub fn u16(self, offset: usize) -> usize
+        requires { offset < 65536 }
+        ensures { (result ≡ u16 offset (bytes_of self.entry)) × (result < 65536) }
+    {
+        u16_in(self.image, self.span, offset)
+    }
+
+    pub fn u32(self, offset: usize) -> usize
+        requires { offset < 65536 }
+        ensures { (result ≡ u32 offset (bytes_of self.entry)) × (result < 4294967296) }
+    {
+        u32_in(self.image, self.span, offset)
+    }
+
+    pub fn u64(self, offset: usize) -> u64
+        requires { offset < 65536 }
+        ensures { result ≡ u64 offset (bytes_of self.entry) }
+    {
+        u64_in(self.image, self.span, offset)
+    }
+
+    // A link with the place of its field.
+    pub fn link(self, offset: usize) -> Link
+        requires { offset < 65536 }
+        ensures { result ≡ record { field = self.entry.span.at + offset; to = u32 offset (bytes_of self.entry) } }
+    {
+        Link {
+            field: self.span.at + offset,
+            to: self.u32(offset),
+        }
+    }
+}
+
+// ---- the kinds of block: identifier, least and written size. Those without a written size are written at their own.
+
+// A clause names a trait's constant by a ghost beside it, so each stands twice: the check proves them equal.
+
+pub trait Kind: Sized {
+    ghost ID: { List ℕ };
 
     ghost LEAST: { ℕ };
 
-    const ID: u64;
+    const ID: [u8; 2];
 
     const LEAST: usize;
 
-    fn open(image: &[u8], at: usize) -> Block
-        ensures { result ≡ block_of at (opening (kind_of ID LEAST) (image_of image.now) at) }
+    final fn open(image: &[u8], at: usize) -> Block<Opened<'_, Self>>
+        ensures { (seen result (λ b. b.span) ≡ block_of at (opening (kind_of ID LEAST) (image_of image.now) at))
+            × IfOpen result (λ b. b.image.now ≡ image.now) }
     {
-        open_block(image, at, Self::ID, Self::LEAST)
+        match open_block(image, at, Self::ID, Self::LEAST) {
+            Block::Open(span) => Block::Open(Opened {
+                image,
+                span,
+                kind: PhantomData,
+            }),
+            Block::Shut(reason) => Block::Shut(reason),
+        }
     }
 
     // The body behind a link, refused at the link's field.
-    fn body(image: &[u8], field: usize, link: usize) -> Result<(), Refusal>
-        ensures { done result ≡ passed (body_at (kind_of ID LEAST) (image_of image.now) field (to_link link)) }
+    final fn body(image: &[u8], link: Link) -> Result<(), Refusal>
+        ensures { done result ≡ passed (body_at (kind_of ID LEAST) (image_of image.now) link.field (to_link link.to)) }
     {
-        if link == 0 {
+        if link.to == 0 {
             return Ok(());
         }
-        let opened = Self::open(image, link);
+        let opened = Self::open(image, link.to);
         let Block::Open(_b) = opened else {
-            return Err(opened.refused(field));
+            return Err(opened.refused(link.field));
         };
         Ok(())
     }
 
-    // Its identifier and its size are in it.
+    // Identifier and size have 4 bytes, which every block has.
     ghost whole: { 4 ≤ LEAST };
 }
 
@@ -175,13 +253,13 @@ pub trait Kind {
 pub struct Hd;
 
 impl Kind for Hd {
-    ghost ID = { 17480 };
+    ghost ID = { 72 ∷ 68 ∷ [] };
 
     ghost LEAST = { 164 };
 
-    ghost whole = { Prim.search rules };
+    ghost whole = { holds_head 160 };
 
-    const ID: u64 = 0x4448;
+    const ID: [u8; 2] = *b"HD";
 
     const LEAST: usize = 164;
 }
@@ -198,13 +276,13 @@ impl Hd {
 pub struct Dg;
 
 impl Kind for Dg {
-    ghost ID = { 18244 };
+    ghost ID = { 68 ∷ 71 ∷ [] };
 
     ghost LEAST = { 24 };
 
-    ghost whole = { Prim.search rules };
+    ghost whole = { holds_head 20 };
 
-    const ID: u64 = 0x4744;
+    const ID: [u8; 2] = *b"DG";
 
     const LEAST: usize = 24;
 }
@@ -218,13 +296,13 @@ impl Dg {
 pub struct Cg;
 
 impl Kind for Cg {
-    ghost ID = { 18243 };
+    ghost ID = { 67 ∷ 71 ∷ [] };
 
     ghost LEAST = { 26 };
 
-    ghost whole = { Prim.search rules };
+    ghost whole = { holds_head 22 };
 
-    const ID: u64 = 0x4743;
+    const ID: [u8; 2] = *b"CG";
 
     const LEAST: usize = 26;
 }
@@ -238,13 +316,13 @@ impl Cg {
 pub struct Cn;
 
 impl Kind for Cn {
-    ghost ID = { 20035 };
+    ghost ID = { 67 ∷ 78 ∷ [] };
 
     ghost LEAST = { 218 };
 
-    ghost whole = { Prim.search rules };
+    ghost whole = { holds_head 214 };
 
-    const ID: u64 = 0x4E43;
+    const ID: [u8; 2] = *b"CN";
 
     const LEAST: usize = 218;
 }
@@ -258,13 +336,13 @@ impl Cn {
 pub struct Cc;
 
 impl Kind for Cc {
-    ghost ID = { 17219 };
+    ghost ID = { 67 ∷ 67 ∷ [] };
 
     ghost LEAST = { 46 };
 
-    ghost whole = { Prim.search rules };
+    ghost whole = { holds_head 42 };
 
-    const ID: u64 = 0x4343;
+    const ID: [u8; 2] = *b"CC";
 
     const LEAST: usize = 46;
 }
@@ -274,13 +352,13 @@ impl Kind for Cc {
 pub struct Ce;
 
 impl Kind for Ce {
-    ghost ID = { 17731 };
+    ghost ID = { 67 ∷ 69 ∷ [] };
 
     ghost LEAST = { 6 };
 
-    ghost whole = { Prim.search rules };
+    ghost whole = { holds_head 2 };
 
-    const ID: u64 = 0x4543;
+    const ID: [u8; 2] = *b"CE";
 
     const LEAST: usize = 6;
 }
@@ -290,13 +368,13 @@ impl Kind for Ce {
 pub struct Tx;
 
 impl Kind for Tx {
-    ghost ID = { 22612 };
+    ghost ID = { 84 ∷ 88 ∷ [] };
 
     ghost LEAST = { 4 };
 
-    ghost whole = { Prim.search rules };
+    ghost whole = { holds_head 0 };
 
-    const ID: u64 = 0x5854;
+    const ID: [u8; 2] = *b"TX";
 
     const LEAST: usize = 4;
 }
@@ -306,13 +384,13 @@ impl Kind for Tx {
 pub struct Pr;
 
 impl Kind for Pr {
-    ghost ID = { 21072 };
+    ghost ID = { 80 ∷ 82 ∷ [] };
 
     ghost LEAST = { 4 };
 
-    ghost whole = { Prim.search rules };
+    ghost whole = { holds_head 0 };
 
-    const ID: u64 = 0x5250;
+    const ID: [u8; 2] = *b"PR";
 
     const LEAST: usize = 4;
 }
@@ -328,9 +406,10 @@ impl Id {
 
     pub const LEAST: usize = 64;
 
+    // Nothing writes by it, for the block is copied whole; each kind of block names the size that is written.
     pub const WRITTEN: usize = 64;
 
-    pub fn open(image: &[u8]) -> Block
+    pub fn open(image: &[u8]) -> Block<Span>
         ensures { result ≡ ident_block image.now }
     {
         if image.len() < Self::LEAST {

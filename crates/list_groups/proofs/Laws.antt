@@ -1,37 +1,38 @@
 -- Groups side by side, and those that one file alone has.
 -- Assumes nothing.
 use Prim.Native.Nat.{ℕ, suc, ◌+◌}
-use mathlib.Core.Path.{◌≡◌, refl, sym, ap, ap₂, ◌∙◌}
+use mathlib.Core.Path.{◌≡◌, refl, sym, ap, ◌∙◌}
 use mathlib.Core.Bool.{Bool, true, false}
 use mathlib.Core.List.{List, [], ◌∷◌, ◌++◌}
 use native.Mathlib.Numerals.{add-one}
 use Rattle.answers.specs.Readings.{Channel, Group}
-use Rattle.answers.specs.Differences.{entry, unless, same_own, alone, channel_entries, record_entries, group_entries, groups_alone, groups_entries}
+use Rattle.answers.specs.Differences.{Entry, entry, unless, same_own, alone, channel_entries, record_entries, group_entries, groups_alone, groups_entries}
 use Rattle.answers.proofs.Laws.{same_refl}
 use Rattle.reading.specs.Promise.{Keyed, log_at, records_with}
 use Rattle.reading.specs.declared.Group.{Group as CursorGroup}
 use Rattle.reading.specs.declared.Groups.{Groups}
-use Rattle.reading.specs.Steps.{log_of, unsorted, key_of, ends_data_group, AtKeys, KeyStep, GroupStepIs}
-use Rattle.std.specs.Prelude.{Some}
+use Rattle.reading.specs.Steps.{groups_left, the_group, log_of, unsorted, key_of, ends_data_group, AtKeys, KeyStep, GroupStepIs}
+use Rattle.std.specs.Prelude.{Option, Some, None, IfSome}
+use Rattle.same_records.specs.declared.Marks.{Marks}
 use Rattle.same_records.specs.Marks.{Told}
-use Rattle.same_records.proofs.Marks.{untold, told_as}
-use lib.ListN.{length}
-use Rattle.listing.specs.Listing.{Listed}
-use Rattle.listing.proofs.Laws.{listed_then}
+use Rattle.listing.specs.declared.List.{List as Written}
+use Rattle.listing.specs.Growing.{Grown, Listing}
+use Rattle.listing.proofs.Laws.{grown_as, grown_then, turn}
 
 -- ---- one group
 
-pub channels_from_lem : (g : ℕ) {i : ℕ} {cs ds cs' ds' : List Channel} → i ≡ 0 → cs ≡ cs' → ds ≡ ds' → channel_entries g (i + 1) cs ds ≡ channel_entries g 1 cs' ds'
-channels_from_lem g e f h = rw (e, f, h)
-
 -- its own fields and comment, then its channels, then its records
-pub group_listed : (g : ℕ) (p q : Group) {out out₁ out₂ out₃ : List ℕ} {at channels records end : ℕ}
-    → Listed out out₁ at channels (unless (same_own p q) (entry 3 g 0 0))
-    → Listed out₁ out₂ channels records (channel_entries g 1 p.channels q.channels)
-    → Listed out₂ out₃ records end (record_entries g 0 p.records q.records)
-    → Listed out out₃ at end (group_entries g p q)
+pub group_listed : (g : ℕ) (p q : Group) {same : Bool} {i : ℕ} {cs ds : List Channel} {before channels records after : Written}
+    → same ≡ same_own p q
+    → Grown before channels (unless same (entry 3 g 0 0))
+    → i ≡ 0
+    → cs ≡ p.channels
+    → ds ≡ q.channels
+    → Grown channels records (channel_entries g (i + 1) cs ds)
+    → Grown records after (record_entries g 0 p.records q.records)
+    → Grown before after (group_entries g p q)
 unfolding group_entries
-group_listed g p q l m n = listed_then l (listed_then m n)
+group_listed g p q e l i f h m n = grown_then (rw e at l) (grown_then (rw (i, f, h) at m) n)
 
 -- the same records have no entries
 pub same_records : (g i : ℕ) {xs ys : List (List ℕ)} → xs ≡ ys → [] ≡ record_entries g i xs ys
@@ -87,47 +88,60 @@ abbrev pub log_before : Groups → List Keyed
 log_before c = log_at c.image.now c.index
 
 -- it is told of the next groups too where neither data group ends
-pub told_on : (ks ls marks : List ℕ) (g h : CursorGroup) (e f : Groups) (t u : Bool)
+pub told_on : (ks ls : List ℕ) (g h : CursorGroup) (e f : Groups) (told : Option Marks)
     → KeyStep ks g e
     → KeyStep ls h f
-    → Told t (log_of g) (log_of h) marks
-    → (t ≡ true → (unsorted g ≡ true) × (unsorted h ≡ true))
-    → (u ≡ true → (t ≡ true) × (ends_data_group e ≡ false) × (ends_data_group f ≡ false))
-    → Told u (log_before e) (log_before f) marks
-told_on ks ls marks g h e f t u x y told both on =
-    record {
-      same =
-          λ z k m.
-          let w = on z in
-          let v = both w.0 in
-          let p = (x.more v.0 w.1).1 in
-          let q = (y.more v.1 w.2).1 in
-          ap (λ l. records_with l k) p ∙ told.same w.0 k m ∙ sym (ap (λ l. records_with l k) q);
-    }
+    → Told told (log_of g) (log_of h)
+    → IfSome told (λ m. (unsorted g ≡ true) × (unsorted h ≡ true))
+    → (ends_data_group e ≡ false) × (ends_data_group f ≡ false)
+    → Told told (log_before e) (log_before f)
+told_on ks ls g h e f None x y tells both on = tt
+told_on ks ls g h e f (Some m) x y tells both on =
+    let p = (x.more both.0 on.0).1 in
+    let q = (y.more both.1 on.1).1 in
+    λ k z. ap (λ l. records_with l k) p ∙ tells k z ∙ sym (ap (λ l. records_with l k) q)
 
 -- ---- what is known before a pair of groups
 
-pub record Ahead (c d : Groups) (told : Bool) (marks : List ℕ) : Type 0 where
+pub record Ahead (c d : Groups) (told : Option Marks) : Type 0 where
   pub left : KeysBefore c
   pub right : KeysBefore d
-  pub long : length marks ≡ 256
-  pub known : Told told (log_before c) (log_before d) marks
+  pub known : Told told (log_before c) (log_before d)
 
-pub first_ahead : {c d : Groups} {marks : List ℕ} → AtKeys c [] → AtKeys d [] → length marks ≡ 256 → Ahead c d false marks
-first_ahead k l h = record { left = record { keys = []; stand = k }; right = record { keys = []; stand = l }; long = h; known = untold }
+pub first_ahead : {c d : Groups} → AtKeys c [] → AtKeys d [] → Ahead c d None
+first_ahead k l = record { left = record { keys = []; stand = k }; right = record { keys = []; stand = l }; known = tt }
 
-module _ {c d : Groups} {told : Bool} {marks : List ℕ} (p : Ahead c d told marks) (g h : CursorGroup) (e f : Groups) (v : GroupStepIs c (Some (g, e))) (w : GroupStepIs d (Some (h, f))) where
-  -- of the groups themselves
-  pub known_here : Told told (log_of g) (log_of h) marks
-  known_here = told_as p.known (ap₂ log_at (sym v.0) (sym v.2)) (ap₂ log_at (sym w.0) (sym w.2))
+module _ {c d : Groups} {told : Option Marks} (p : Ahead c d told) (g h : CursorGroup) (e f : Groups) (v : GroupStepIs c (Some g) e) (w : GroupStepIs d (Some h) f) where
+  abbrev left_step : KeyStep p.left.keys g e
+  left_step = v.5 p.left.keys p.left.stand
 
-  pub next_ahead : (t u : Bool) (marks₁ : List ℕ)
-      → length marks₁ ≡ 256
-      → Told t (log_of g) (log_of h) marks₁
-      → (t ≡ true → (unsorted g ≡ true) × (unsorted h ≡ true))
-      → (u ≡ true → (t ≡ true) × (ends_data_group e ≡ false) × (ends_data_group f ≡ false))
-      → Ahead e f u marks₁
-  next_ahead t u marks₁ long k both on =
-      let x = v.5 p.left.keys p.left.stand in
-      let y = w.5 p.right.keys p.right.stand in
-      record { left = keys_on p.left.keys g e x; right = keys_on p.right.keys h f y; long = long; known = told_on p.left.keys p.right.keys marks₁ g h e f t u x y k both on }
+  abbrev right_step : KeyStep p.right.keys h f
+  right_step = w.5 p.right.keys p.right.stand
+
+  -- behind them nothing is told, or the same
+  pub nothing_ahead : Ahead e f None
+  nothing_ahead = record { left = keys_on p.left.keys g e left_step; right = keys_on p.right.keys h f right_step; known = tt }
+
+  pub same_ahead : (tells : Option Marks)
+      → Told tells (log_of g) (log_of h)
+      → IfSome tells (λ m. (unsorted g ≡ true) × (unsorted h ≡ true))
+      → (ends_data_group e ≡ false) × (ends_data_group f ≡ false)
+      → Ahead e f tells
+  same_ahead tells k both on =
+      record {
+        left = keys_on p.left.keys g e left_step;
+        right = keys_on p.right.keys h f right_step;
+        known = told_on p.left.keys p.right.keys g h e f tells left_step right_step k both on;
+      }
+
+  -- what is listed then
+  pub grown_on : {all : List Entry} {first before after : Written} {n : ℕ}
+      → c.index ≡ d.index
+      → Listing all first before (groups_entries c.index (groups_left c) (groups_left d))
+      → n ≡ c.index
+      → Grown before after (group_entries n (the_group g) (the_group h))
+      → (e.index ≡ f.index) × Listing all first after (groups_entries e.index (groups_left e) (groups_left f))
+  grown_on {n = n} i l m q = (
+    v.4 ∙ ap (λ k. k + 1) i ∙ sym w.4,
+    turn l (group_entries c.index (the_group g) (the_group h)) (both_next c.index e.index v.3 w.3 v.4) (grown_as q (ap (λ k. group_entries k (the_group g) (the_group h)) m)),
+  )

@@ -1,84 +1,66 @@
 // The entries of the groups of two files: what differs in groups that both have, and the groups that one file alone has.
 #![tactic(auto)]
 
-ghost use Rattle.std.specs.Prelude.{◌≡◌, true, false, [], ◌≤◌};
+ghost use Rattle.std.specs.Prelude.{◌≡◌, true, []};
 ghost use Rattle.answers.specs.Differences.{group_entries, groups_alone, groups_entries};
 ghost use Rattle.reading.specs.Steps.{AtKeys, the_group, groups_left};
-ghost use Rattle.listing.specs.Listing.{Listed};
+ghost use Rattle.listing.specs.Growing.{Grown};
 
-use listing::Kind;
+use listing::{EntryKind, List};
 use reading::{Group, Groups};
 
-// Two groups that have the same number, behind `at` bytes of a list. Records that are known to be the same are not gone through.
-fn list_group(out: &mut [u8], at: usize, g: Group, h: Group, number: usize, known: bool) -> usize
-    requires { (at ≤ 2147483648) × (known ≡ true → (the_group g).records ≡ (the_group h).records) }
-    ensures { Listed out.old out.new at result (group_entries number (the_group g.entry) (the_group h.entry)) }
+// Two groups that have the same number. Records that are known to be the same are not gone through.
+fn list_group(list: &mut List, g: Group, h: Group, number: usize, known: bool)
+    requires { known ≡ true → (the_group g).records ≡ (the_group h).records }
+    ensures { Grown list.old list.new (group_entries number (the_group g.entry) (the_group h.entry)) }
 {
     let same = same_parts::same_own(g, h);
-    let own_end = listing::list_unless(out, at, same, Kind::GroupPart as usize, number, 0);
-    let x = g.channels();
-    let y = h.channels();
-    let channels_end = list_channels::list_channels(out, own_end, x, y, number);
-    if known {
-        return channels_end;
+    list.unless(same, EntryKind::GroupPart as usize, number, 0);
+    list_channels::list_channels(list, g.channels(), h.channels(), number);
+    if !known {
+        list_records::list_records(list, g, h, number);
     }
-    list_records::list_records(out, channels_end, g, h, number)
 }
 
-// The groups that are left in one file, behind `at` bytes of a list.
-fn list_alone(out: &mut [u8], at: usize, groups: Groups) -> usize
-    requires { at ≤ 2147483648 }
-    ensures { Listed out.old out.new at result (groups_alone groups.entry.index (groups_left groups.entry)) }
+// The groups that are left in one file.
+fn list_alone(list: &mut List, groups: Groups)
+    ensures { Grown list.old list.new (groups_alone groups.entry.index (groups_left groups.entry)) }
 {
-    let mut c = groups;
-    let mut to = at;
-    // no `for`: it ends with the cursor, or where no list is longer
-    while to <= 2147483647 {
-        let Some((_g, n)) = c.next() else {
-            return to;
-        };
-        to = listing::list_entry(out, to, Kind::GroupAlone as usize, c.number(), 0, 0);
-        c = n;
+    for g in groups {
+        list.entry(EntryKind::GroupAlone as usize, g.number(), 0, 0);
     }
-    to
-}
-
-// What was told of two data groups holds on where neither has ended. One value with its promise, so that the loop's invariant is shown once.
-fn holds_on(told: bool, left: bool, right: bool) -> bool
-    ensures { result ≡ true → (told ≡ true) × (left ≡ false) × (right ≡ false) }
-{
-    told && !left && !right
 }
 
 // The groups of both files, side by side.
-pub fn list_groups(out: &mut [u8], at: usize, x: Groups, y: Groups) -> usize
-    requires { (x.index ≡ y.index) × (at ≤ 2147483648) × AtKeys x [] × AtKeys y [] }
-    ensures { Listed out.old out.new at result (groups_entries x.entry.index (groups_left x.entry) (groups_left y.entry)) }
+pub fn list_groups(list: &mut List, x: Groups, y: Groups)
+    requires { (x.index ≡ y.index) × AtKeys x [] × AtKeys y [] }
+    ensures { Grown list.old list.new (groups_entries x.entry.index (groups_left x.entry) (groups_left y.entry)) }
 {
-    let mut marks = [0u8; 256];
     let mut begins = true;
-    let mut told = false;
+    let mut told = None;
     let mut c = x;
     let mut d = y;
-    let mut to = at;
     // ends with either cursor, or where no list is longer
-    while to <= 2147483647 {
-        let Some((g, e)) = c.next() else {
-            return list_alone(out, to, d);
+    while !list.length.is_too_long() {
+        let before = c;
+        let Some(g) = c.next() else {
+            list_alone(list, d);
+            return;
         };
-        let Some((h, f)) = d.next() else {
-            return list_alone(out, to, c);
+        let Some(h) = d.next() else {
+            list_alone(list, before);
+            return;
         };
-        let tells = same_records::mark(&mut marks, g, h, begins, told);
-        let known = same_records::known_same(&marks, g, h, tells);
-        to = list_group(out, to, g, h, c.number(), known);
-        let left = e.ends_data_group();
-        let right = f.ends_data_group();
-        // only saves time: what is marked is right for any answer
+        told = same_records::mark(g, h, begins, told);
+        let known = same_records::known_same(g, h, told);
+        list_group(list, g, h, g.number(), known);
+        let left = c.ends_data_group();
+        let right = d.ends_data_group();
+        // only for time: `mark` is right whatever it is told here
         begins = left && right;
-        told = holds_on(tells, left, right);
-        c = e;
-        d = f;
+        // behind a data group's last group nothing is told
+        if left || right {
+            told = None;
+        }
     }
-    to
 }

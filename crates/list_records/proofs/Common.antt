@@ -2,6 +2,7 @@
 -- Assumes nothing.
 use Prim.Native.Nat.{ℕ, suc, ◌+◌, ◌-◌}
 use mathlib.Core.Path.{◌≡◌, refl, sym, ap}
+use mathlib.Core.Logic.{◌⊎◌, inl, inr}
 use mathlib.Core.List.{List, [], ◌∷◌, ◌++◌, append_assoc}
 use native.Mathlib.Omega.{arith}
 use native.Mathlib.Numerals.{add-one}
@@ -30,16 +31,12 @@ all_entries g i k d (x ∷ xs) (y ∷ ys) e f =
 -- ---- a step
 
 -- one of them has no more
-pub none_common : (g i : ℕ) (xs ys : List (List ℕ)) → length xs ≡ 0 → common_entries g i xs ys ≡ []
+pub none_common : (g i : ℕ) (xs ys : List (List ℕ)) → (xs ≡ []) ⊎ (ys ≡ []) → common_entries g i xs ys ≡ []
 unfolding common_entries
-none_common g i [] ys e = refl
-none_common g i (x ∷ xs) ys e = absurd (omega arith)
+none_common g i xs ys (inl e) = rw e
+none_common g i [] ys (inr e) = refl
+none_common g i (x ∷ xs) ys (inr e) = rw e
 
-pub common_none : (g i : ℕ) (xs ys : List (List ℕ)) → ys ≡ [] → common_entries g i xs ys ≡ []
+pub common_next : (g i j : ℕ) {xs ys xs' ys' : List (List ℕ)} {x y : List ℕ} → xs ≡ x ∷ xs' → ys ≡ y ∷ ys' → j ≡ i + 1 → common_entries g i xs ys ≡ unless (same_bytes x y) (entry 4 g i (difference x y)) ++ common_entries g j xs' ys'
 unfolding common_entries
-common_none g i [] ys e = refl
-common_none g i (x ∷ xs) ys e = rw e
-
-pub common_next : (g i : ℕ) {xs ys xs' ys' : List (List ℕ)} {x y : List ℕ} → xs ≡ x ∷ xs' → ys ≡ y ∷ ys' → common_entries g i xs ys ≡ unless (same_bytes x y) (entry 4 g i (difference x y)) ++ common_entries g (i + 1) xs' ys'
-unfolding common_entries
-common_next g i e f = rw (e, f, add-one)
+common_next g i j e f k = rw (e, f, k, add-one)

@@ -6,13 +6,17 @@ use mathlib.Core.Bool.{Bool, true, false}
 use mathlib.Core.List.{List, [], ◌∷◌, ◌++◌, map, append_assoc, append-nil}
 use native.Mathlib.Omega.{arith}
 use native.Mathlib.Numerals.{add-one}
-use lib.Dec.{leb}
+use lib.Dec.{leb, ltb}
 use lib.ListN.{length, length-append}
 use borrow.Author.Tests.{leb-true, leb-false, le-leb, lt-leb}
+use Rattle.std.proofs.lemmas.Bool.{ltb-true}
 use Rattle.answers.specs.Readings.{join}
 use Rattle.answers.specs.Differences.{Entry, entry, entry_bytes, alone}
 use Rattle.write.specs.Write.{Wrote, wrote_none, wrote_as, wrote_length, then}
-use Rattle.listing.specs.Listing.{capped, entries_bytes, numbered, Listed, Listing}
+use Rattle.listing.specs.declared.Length.{Length}
+use Rattle.listing.specs.declared.List.{List as Written}
+use Rattle.listing.specs.Listing.{capped, entries_bytes, numbered, Listed}
+use Rattle.listing.specs.Growing.{Grown, Listing}
 
 -- ---- lengths
 
@@ -34,9 +38,6 @@ by_length {P} n f g = go (leb n 2147483647) refl
 
 pub capped_least : (n : ℕ) → min n 2147483648 ≡ capped n
 capped_least n = by_length n (λ h. omega (arith, capped_exact n h)) (λ h. omega (arith, capped_over n h))
-
-capped_near : (n : ℕ) → capped n ≤ 2147483648
-capped_near n = by_length n (λ h. omega (arith, capped_exact n h)) (λ h. omega (arith, capped_over n h))
 
 -- what is reached is exact as long as it is not too long
 pub capped_short : (n : ℕ) → capped n ≤ 2147483647 → capped n ≡ n
@@ -80,9 +81,6 @@ entries_one e = append-nil (entry_bytes e)
 -- ---- entries one behind the other
 
 module _ {out out₁ : List ℕ} {at to : ℕ} {es : List Entry} (l : Listed out out₁ at to es) where
-  pub near : to ≤ 2147483648
-  near = rw l.reached (capped_near (at + 16 * length es))
-
   pub listed_as : {fs : List Entry} → es ≡ fs → Listed out out₁ at to fs
   listed_as e = rw (← e) l
 
@@ -101,12 +99,12 @@ module _ {out out₁ : List ℕ} {at to : ℕ} {es : List Entry} (l : Listed out
             wrote_as (then (l.wrote (omega arith) (omega arith)) (m.wrote (omega (arith, k)) (omega arith)) (t ∙ ap (λ k. at + k) (sym (entries_length es)))) refl (sym (entries_append es fs));
       }
 
-pub listed_none : {out : List ℕ} (at : ℕ) → at ≤ 2147483648 → Listed out out at at []
-listed_none at h =
-    let e : at ≡ at + 16 * length {A = Entry} [] = omega arith in
+pub listed_none : {out : List ℕ} (at : Length) → Listed out out at.bytes at.bytes []
+listed_none at =
+    let e : at.bytes ≡ at.bytes + 16 * length {A = Entry} [] = omega arith in
     record {
       kept = refl;
-      reached = sym (capped_self at h) ∙ ap capped e;
+      reached = sym (capped_self at.bytes at.capped) ∙ ap capped e;
       wrote = λ room few. wrote_as wrote_none refl (sym entries_none);
     }
 
@@ -136,42 +134,54 @@ listed_one at to one e w =
       wrote = λ room few. wrote_as w refl (sym (entries_one one));
     }
 
+-- ---- a list that grows
+
+pub grown_none : (l : Written) → Grown l l []
+grown_none l = record { lent = refl; listed = listed_none l.length }
+
+module _ {l m : Written} {es : List Entry} (g : Grown l m es) where
+  pub grown_as : {fs : List Entry} → es ≡ fs → Grown l m fs
+  grown_as e = rw (← e) g
+
+  pub grown_then : {n : Written} {fs : List Entry} → Grown m n fs → Grown l n (es ++ fs)
+  grown_then h = record { lent = h.lent ∙ g.lent; listed = listed_then g.listed h.listed }
+
 -- ---- a loop that lists
 
-pub begin : {all : List Entry} {out : List ℕ} (at : ℕ) → at ≤ 2147483648 → Listing all out out at at all
-begin at h = record { done = []; listed = listed_none at h; whole = refl }
+pub begin : {all : List Entry} (l : Written) → Listing all l l all
+begin l = record { done = []; grown = grown_none l; whole = refl }
 
-module _ {all : List Entry} {out₀ out : List ℕ} {at to : ℕ} {todo : List Entry} (p : Listing all out₀ out at to todo) where
-  pub so_far : to ≤ 2147483648
-  so_far = near p.listed
-
-  pub same_length : length out ≡ length out₀
-  same_length = p.listed.kept
-
-  pub turn : {out₁ : List ℕ} {end : ℕ} (es : List Entry) {rest : List Entry} → todo ≡ es ++ rest → Listed out out₁ to end es → Listing all out₀ out₁ at end rest
-  turn es {rest} e l =
+module _ {all : List Entry} {l m : Written} {todo : List Entry} (p : Listing all l m todo) where
+  pub turn : {n : Written} (es : List Entry) {rest : List Entry} → todo ≡ es ++ rest → Grown m n es → Listing all l n rest
+  turn es {rest} e g =
       record {
         done = p.done ++ es;
-        listed = listed_then p.listed l;
+        grown = grown_then p.grown g;
         whole = p.whole ∙ ap (λ fs. p.done ++ fs) e ∙ sym (append_assoc p.done es rest);
       }
 
-  pub finish : {out₁ : List ℕ} {end : ℕ} → Listed out out₁ to end todo → Listed out₀ out₁ at end all
-  finish l = listed_as (listed_then p.listed l) (sym p.whole)
+  pub finish : {n : Written} → Grown m n todo → Grown l n all
+  finish g = grown_as (grown_then p.grown g) (sym p.whole)
 
-  pub end : todo ≡ [] → Listed out₀ out at to all
-  end e = listed_as p.listed (sym (append-nil p.done) ∙ ap (λ fs. p.done ++ fs) (sym e) ∙ sym p.whole)
+  pub end : todo ≡ [] → Grown l m all
+  end e = grown_as p.grown (sym (append-nil p.done) ∙ ap (λ fs. p.done ++ fs) (sym e) ∙ sym p.whole)
 
-  -- already too long: what is still to come does not matter
-  pub stop : 2147483647 < to → Listed out₀ out at to all
-  stop h =
-      let l = capped_long (at + 16 * length p.done) (rw p.listed.reached at h) in
+  -- already too long, as a test of `is_too_long` tells: what is still to come does not matter
+  pub stop : {too_long : Bool} → too_long ≡ ltb 2147483647 m.length.bytes → too_long ≡ true → Grown l m all
+  stop tells holds =
+      let at = l.length.bytes in
+      let q = p.grown.listed in
+      let h = ltb-true 2147483647 m.length.bytes (sym tells ∙ holds) in
+      let k = capped_long (at + 16 * length p.done) (rw q.reached at h) in
       let n : length all ≡ length p.done + length todo = ap length p.whole ∙ length-append p.done todo in
       let e : 2147483647 < at + 16 * length all = omega arith in
       record {
-        kept = p.listed.kept;
-        reached = p.listed.reached ∙ capped_over (at + 16 * length p.done) l ∙ sym (capped_over (at + 16 * length all) e);
-        wrote = λ room few. absurd (omega arith);
+        lent = p.grown.lent;
+        listed = record {
+          kept = q.kept;
+          reached = q.reached ∙ capped_over (at + 16 * length p.done) k ∙ sym (capped_over (at + 16 * length all) e);
+          wrote = λ room few. absurd (omega arith);
+        };
       }
 
 -- ---- items by their numbers

@@ -1,6 +1,6 @@
--- Entries listed from a place on, and the laws by which lists compose.
+-- Entries listed from a place on.
 -- Assumes nothing.
-use Rattle.std.specs.Prelude.{ℕ, zero, suc, ◌+◌, ◌*◌, ◌≤◌, ◌≡◌, cond, List, [], ◌∷◌, ◌++◌, map, leb, length}
+use Rattle.std.specs.Prelude.{ℕ, zero, suc, ◌+◌, ◌*◌, ◌≤◌, ◌≡◌, cond, List, [], ◌∷◌, map, leb, length}
 use Rattle.answers.specs.Readings.{join}
 use Rattle.answers.specs.Differences.{Entry, entry, entry_bytes}
 use Rattle.write.specs.Write.{Wrote}
@@ -22,9 +22,3 @@ pub record Listed (out out₁ : List ℕ) (at to : ℕ) (es : List Entry) : Type
   pub kept : length out₁ ≡ length out
   pub reached : to ≡ capped (at + 16 * length es)
   pub wrote : at + 16 * length es ≤ length out → at + 16 * length es ≤ 2147483647 → Wrote out out₁ at (entries_bytes es)
-
--- of the entries `all`, to be listed behind `at` bytes, some are listed, and `todo` are still to come
-pub record Listing (all : List Entry) (out₀ out : List ℕ) (at to : ℕ) (todo : List Entry) : Type 0 where
-  pub done : List Entry
-  pub listed : Listed out₀ out at to done
-  pub whole : all ≡ done ++ todo

@@ -4,17 +4,19 @@
 
 ghost use Rattle.std.specs.Prelude.{◌≡◌};
 ghost use Rattle.answers.specs.Outcomes.{copy_outcome, compare_outcome};
-ghost use Rattle.stored.specs.Stored.{stored_of, SignedFits};
+ghost use Rattle.stored.specs.Stored.{stored_of};
 ghost use Rattle.mdf3.specs.Answers.{answer_bytes, number_given, answer_given, check_number, check_answer, copy_number, copy_answer, compare_number, compare_answer, stored_bytes, sample_number, sample_answer, physical_bytes, physical_number, physical_answer};
 
 use reading::{File, Refusal};
 use stored::Stored;
 
-// Place, value, length and kind, as the answer holds them.
+// Place, value, length and kind, as the answer holds them: all have 64 bits there, and kinds are the numbers of include/mdf3.h.
+// `as` between `u64` and `usize`, here and below: the library has no `From` between them.
 fn answer_bytes(place: u64, value: u64, size: u64, kind: u64) -> [u8; 32]
     ensures { result ≡ answer_bytes place value size kind }
 {
     let mut bytes = [0u8; 32];
+    // eight bytes each, so that no call of `memmove` is left
     bytes[..8].copy_from_slice(&place.to_le_bytes());
     bytes[8..16].copy_from_slice(&value.to_le_bytes());
     bytes[16..24].copy_from_slice(&size.to_le_bytes());
@@ -51,6 +53,7 @@ fn length_bytes(length: usize) -> [u8; 32]
     answer_bytes(0, length as u64, 0, 0)
 }
 
+#[tactic(auto, unfolding(crate::specs::Answers::physical_bytes))]
 fn float_bytes(x: f64) -> [u8; 32]
     ensures { result ≡ physical_bytes x }
 {
@@ -58,13 +61,13 @@ fn float_bytes(x: f64) -> [u8; 32]
 }
 
 // A sample as the answer holds it.
+#[tactic(auto, unfolding(crate::specs::Answers::stored_bytes))]
 fn sample_bytes(s: Stored) -> [u8; 32]
-    requires { SignedFits s }
     ensures { result ≡ stored_bytes (stored_of s) }
 {
     match s {
         Stored::Unsigned(n) => answer_bytes(0, n, 0, 1),
-        Stored::Signed(bits, n) => answer_bytes(0, bits::twos_complement(bits, n), 0, 2),
+        Stored::Signed(signed) => answer_bytes(0, signed.twos_complement(), 0, 2),
         Stored::Single(n) => answer_bytes(0, u64::from(n), 0, 3),
         Stored::Double(n) => answer_bytes(0, n, 0, 4),
         Stored::Part(span) => answer_bytes(0, span.at as u64, span.size as u64, 5),

@@ -6,10 +6,10 @@ use sample::SampleValue;
 
 // The bits of a 32-bit float as a 64-bit one, which can hold it.
 fn widened(x: f32) -> u64 {
-    if x != x {
+    if x.is_nan() {
         return 0x7ff8_0000_0000_0000;
     }
-    floats::double_bits(x as f64)
+    floats::double_bits(f64::from(x))
 }
 
 fn line(kind: u64, a: u64, b: u64) {
@@ -43,10 +43,24 @@ fn show(image: &[u8], group: usize, channel: usize, record: usize) {
     io::write_all(1, b"\n");
 }
 
-// Of 5 groups, 9 channels and 6 records.
+// The first 6 records of a channel.
+fn show_channel(image: &[u8], group: usize, channel: usize) {
+    for record in 0..6 {
+        show(image, group, channel, record);
+    }
+}
+
+// The first 9 channels of a group.
+fn show_group(image: &[u8], group: usize) {
+    for channel in 0..9 {
+        show_channel(image, group, channel);
+    }
+}
+
+// The first 5 groups.
 fn show_image(image: &[u8]) {
-    for k in 0..270 {
-        show(image, k / 54, k / 6 % 9, k % 6);
+    for group in 0..5 {
+        show_group(image, group);
     }
 }
 

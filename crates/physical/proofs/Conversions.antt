@@ -1,22 +1,19 @@
--- Conversions: one to one, linear, and those that are not known.
+-- The linear conversion, formula 0.
 -- Assumes nothing.
 use Prim.Native.Nat.{ℕ, ◌+◌, ◌≤◌, ◌<◌}
 use mathlib.Core.Path.{◌≡◌, ◌∙◌, ap}
 use mathlib.Core.Bool.{true, false, ◌&&◌}
 use mathlib.Core.List.{List}
-use mathlib.Core.Option.{some}
 use native.Mathlib.Omega.{arith}
-use borrow.Author.Tests.{le-leb, lt-leb, ne_eqb}
+use borrow.Author.Tests.{le-leb, lt-leb}
 use lib.Dec.{leb}
 use lib.ListN.{length}
 use lib.Ieee.{Float, binary64, add, mul}
 use Rattle.std.specs.Prelude.{Option, Some, None}
-use Rattle.answers.specs.Readings.{Answer, refused, accepted}
-use Rattle.answers.specs.Samples.{formula, finite, P1, P2, linear, converted}
+use Rattle.answers.specs.Readings.{refused, accepted}
+use Rattle.answers.specs.Samples.{finite, P1, P2, linear}
 use Rattle.answers.proofs.Laws.{refuses, admits}
 use Rattle.physical.specs.Values.{held, FiniteIs}
-
--- ---- formula 0
 
 module _ (cc : List ℕ) (x : Float) where
   pub short : length cc < 58 → refused 16 0 ≡ linear cc x
@@ -51,19 +48,3 @@ module _ (cc : List ℕ) (x : Float) where
         unfolding linear
         scaled_is None h = admits _ _ _ _ room (admits _ _ _ _ parameters (refuses _ _ _ _ (rw (← result) h)))
         scaled_is (Some z) h = admits _ _ _ _ room (admits _ _ _ _ parameters (admits _ _ _ _ (rw (← result, ← h.1) h.0) (ap accepted (h.1 ∙ result))))
-
--- ---- by the formula
-
-module _ (cc : List ℕ) (x : Float) where
-  pub one_to_one : formula cc ≡ 65535 → accepted x ≡ converted (some cc) x
-  unfolding converted
-  one_to_one e = rw e
-
-  module _ (d : formula cc ≡ 65535 → ⊥) where
-    pub by_linear : {r : Answer Float} → formula cc ≡ 0 → r ≡ linear cc x → r ≡ converted (some cc) x
-    unfolding converted
-    by_linear e h = rw (ne_eqb (formula cc) 65535 d, e) h
-
-    pub unknown : (formula cc ≡ 0 → ⊥) → refused 16 0 ≡ converted (some cc) x
-    unfolding converted
-    unknown n = rw (ne_eqb (formula cc) 65535 d, ne_eqb (formula cc) 0 n)

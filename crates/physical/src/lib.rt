@@ -1,14 +1,15 @@
-// The physical value of a sample, for the conversions that are known: none, one to one, linear. 16 where there is none.
+// The physical value of a sample, for the conversions that are known: none, one to one, linear. Refusal 16 where there is none.
 #![tactic(auto)]
 
-ghost use Rattle.std.specs.Prelude.{◌≡◌, ◌+◌, ◌^◌, ◌≤◌, ◌<◌};
+ghost use Rattle.std.specs.Prelude.{◌≡◌, ◌+◌, ◌<◌, leb};
+ghost use Rattle.std.specs.Bool.{then_some};
 ghost use Rattle.std.specs.Float.{binary64};
 ghost use Rattle.std.specs.Float.Ieee.{of_bits};
-ghost use Rattle.answers.specs.Samples.{u64, Logged, unsigned, signed, number_of, linear, converted, physical_value, physical_outcome};
+ghost use Rattle.answers.specs.Samples.{u64, Logged, exact, number_of, linear, converted, physical_value, physical_outcome};
 ghost use Rattle.refusal.specs.Refused.{answer_of};
 ghost use Rattle.reading.specs.Bodies.{body_held};
 ghost use Rattle.reading.specs.Steps.{the_channel, channel_place};
-ghost use Rattle.stored.specs.Stored.{stored_of, SignedFits, RowAt, LoggedAt};
+ghost use Rattle.stored.specs.Stored.{stored_of, RowAt, LoggedAt};
 ghost use Rattle.physical.specs.Values.{held, FiniteIs, outcome, physical_of};
 
 use reading::{Channel, Reason, Refusal, Span};
@@ -19,23 +20,11 @@ use stored::Stored;
 // Up to it every integer is a 64-bit float.
 const EXACT: u64 = 9007199254740992;
 
-fn natural(n: u64) -> Option<f64>
-    ensures { held result ≡ number_of (unsigned n) }
+// The float of an integer of this magnitude, where no integer up to it is rounded.
+fn unrounded(magnitude: u64, x: f64) -> Option<f64>
+    ensures { result ≡ then_some (leb magnitude exact) x }
 {
-    if EXACT < n {
-        return None;
-    }
-    Some(floats::of_unsigned(n))
-}
-
-fn integer(bits: usize, n: u64) -> Option<f64>
-    requires { (1 ≤ bits) × (bits ≤ 64) × (n < 2 ^ bits) }
-    ensures { held result ≡ number_of (signed bits n) }
-{
-    if EXACT < bits::magnitude(bits, n) {
-        return None;
-    }
-    Some(floats::of_signed(bits::signed(bits, n)))
+    (magnitude <= EXACT).then_some(x)
 }
 
 // A number that is finite.
@@ -45,13 +34,13 @@ fn finite(x: f64) -> Option<f64>
     floats::is_finite(x).then_some(x)
 }
 
+#[tactic(auto, unfolding(answers::specs::Samples::number_of))]
 fn number(s: Stored) -> Option<f64>
-    requires { SignedFits s }
     ensures { held result ≡ number_of (stored_of s) }
 {
     match s {
-        Stored::Unsigned(n) => natural(n),
-        Stored::Signed(bits, n) => integer(bits, n),
+        Stored::Unsigned(n) => unrounded(n, floats::of_unsigned(n)),
+        Stored::Signed(signed) => unrounded(signed.magnitude(), floats::of_signed(signed.value())),
         Stored::Double(n) => finite(floats::double_of(n)),
         Stored::Single(_) | Stored::Part(_) => None,
     }
@@ -81,12 +70,14 @@ fn linear(cc: &[u8], x: f64) -> Option<f64>
 }
 
 // A number by the conversion of its channel.
+#[tactic(auto, unfolding(answers::specs::Samples::converted))]
 fn convert(conversion: Option<&[u8]>, x: f64) -> Option<f64>
     ensures { held result ≡ converted (body_held conversion.entry) x }
 {
     let Some(cc) = conversion else {
         return Some(x);
     };
+    // the file's numbers of formulas: one to one, linear, and others, which have no value here
     match reading::u16_of(cc, 38) {
         65535 => Some(x),
         0 => linear(cc, x),
@@ -96,7 +87,6 @@ fn convert(conversion: Option<&[u8]>, x: f64) -> Option<f64>
 
 // The physical value of a sample of a channel.
 fn value(c: Channel, s: Stored) -> Option<f64>
-    requires { SignedFits s }
     ensures { held result ≡ physical_value (the_channel c.entry).conversion (stored_of s) }
 {
     let x = number(s)?;
@@ -112,7 +102,7 @@ fn physical_in(image: &[u8], c: Channel, row: Span) -> Result<f64, Refusal>
     value(c, s).ok_or(Reason::NoPhysical.at(0))
 }
 
-// The physical value of a channel in a record. Groups, channels and records are counted from 0.
+// The physical value of a channel in a record. Groups, channels and records are counted from 0, as three numbers: so the calls for C have them.
 pub fn physical(image: &[u8], group: usize, channel: usize, record: usize) -> Result<f64, Refusal>
     ensures { outcome result ≡ physical_outcome image.now group channel «record» }
 {

@@ -5,39 +5,29 @@ use mathlib.Core.Path.{◌≡◌, refl, sym, ◌∙◌, ap, ap₂}
 use mathlib.Core.List.{List, [], ◌∷◌, ◌++◌, append_assoc, append-nil}
 use mathlib.Core.Option.{Option, some}
 use native.Mathlib.Omega.{arith}
-use lib.ListN.{length, length-append}
 use Rattle.std.proofs.Math.Logic.{∥∥₁_elim}
-use Rattle.std.proofs.Math.Bridge.{le_prop}
 use Rattle.std.specs.Coded.{codes}
+use lib.ListN.{length, length-append}
 use Rattle.answers.specs.Readings.{target, cc_kind, ce_kind, tx_kind, join}
 use Rattle.answers.specs.Readings.{Channel as ReadChannel}
 use Rattle.answers.specs.Copies.{body_length, body_bytes, link_to_first, channel_length, channel_bytes, channels_bytes, cn_of}
 use Rattle.blocks.specs.Blocks.{cn_bytes}
 use Rattle.blocks.proofs.Written.{cn_written_lem}
 use Rattle.write.specs.Write.{Wrote, then, wrote_as, filled}
-use Rattle.answers.specs.Readings.{WellFormedChannel}
 use Rattle.answers.proofs.Laws.{length_cn, length_channel}
 use Rattle.reading.specs.declared.Carried.{Carried}
+use Rattle.std.specs.Prelude.{is_some}
 use Rattle.reading.specs.declared.Channel.{Channel}
 use Rattle.reading.specs.Steps.{the_channel, FieldsAre}
-use Rattle.reading.proofs.Promise.{known_bytes, channel_well_formed}
+use Rattle.reading.proofs.Formed.{channel_formed}
 use Rattle.put_channels.specs.declared.Bodies.{Bodies}
 use Rattle.put_channels.specs.declared.Places.{Places}
-use Rattle.put_channels.specs.Written.{written_link, written_bytes}
-use Rattle.put_channels.specs.Channels.{BodiesAre, SmallBodies, PlacesAre, bodies_bytes, block_as, channel_as}
+use Rattle.put_channels.specs.declared.Layout.{Layout}
+use Rattle.put_channels.specs.Written.{link_if, written_bytes}
+use Rattle.put_channels.specs.Channels.{BodiesAre, PlacesAre, bodies_bytes, block_as, channel_as}
 use Rattle.put_channels.proofs.Written.{written_length_lem, written_link_lem, written_bytes_lem, written_as}
 
 module _ (b : Bodies) (c : ReadChannel) (h : BodiesAre b c) where
-  pub small_bodies : SmallBodies b
-  small_bodies =
-      record {
-        conversion = h.conversion.small;
-        extension = h.extension.small;
-        comment = h.comment.small;
-        long = h.long.small;
-        display = h.display.small;
-      }
-
   -- the places by the lengths of the channel's bodies
   pub record PlacesBy (at : ℕ) (p : Places) : Type 0 where
     pub ce : p.ce ≡ at + 228 + body_length c.conversion
@@ -66,6 +56,9 @@ module _ (b : Bodies) (c : ReadChannel) (h : BodiesAre b c) where
       ap₂ ◌++◌
       (ap₂ ◌++◌ (ap₂ ◌++◌ (ap₂ ◌++◌ (written_bytes_lem cc_kind b.conversion h.conversion) (written_bytes_lem ce_kind b.extension h.extension)) (written_bytes_lem tx_kind b.comment h.comment)) (written_bytes_lem tx_kind b.long h.long))
       (written_bytes_lem tx_kind b.display h.display)
+
+pub layout_end : (l : Layout) → l.places.end ≡ l.at + channel_length (the_channel l.channel)
+layout_end l = ∥∥₁_elim l.held (hlevel codes) (λ h. (places_by l.bodies _ h l.at l.places l.placed).end)
 
 -- the bytes of a channel by the definition
 channel_as_lem : (at : ℕ) (next : Option ℕ) (c : ReadChannel) → channel_bytes at next c ≡ channel_as at (target next) c
@@ -104,11 +97,11 @@ module _ (at : ℕ) (b : Bodies) (p : Places) (q : PlacesAre at b p) where
 
 module _ (at : ℕ) (b : Bodies) (p : Places) (c : ReadChannel) (h : BodiesAre b c) (q : PlacesAre at b p) where
   pub block_written : (next cc ce tx long display : ℕ) (r : Carried)
-      → cc ≡ written_link p.cc b.conversion
-      → ce ≡ written_link p.ce b.extension
-      → tx ≡ written_link p.tx b.comment
-      → long ≡ written_link p.long b.long
-      → display ≡ written_link p.display b.display
+      → cc ≡ link_if (is_some b.conversion) p.cc
+      → ce ≡ link_if (is_some b.extension) p.ce
+      → tx ≡ link_if (is_some b.comment) p.tx
+      → long ≡ link_if (is_some b.long) p.long
+      → display ≡ link_if (is_some b.display) p.display
       → FieldsAre c.fields r
       → cn_bytes next cc ce tx r.main.now long display (filled r.later.now 2) ≡ block_as at next c
   unfolding block_as
@@ -124,16 +117,11 @@ module _ (at : ℕ) (b : Bodies) (p : Places) (c : ReadChannel) (h : BodiesAre b
 -- ---- a channel of an accepted image: its block and its bytes have their lengths
 
 module _ (x : Channel) where
-  formed : {n m : ℕ} → ((size : ℕ) → WellFormedChannel size (the_channel x) → n ≡ m) → n ≡ m
-  formed f =
-      ∥∥₁_elim x.stands (hlevel (codes, le_prop)) λ s.
-      f _ (channel_well_formed x.image.now x.group x.index x.cn s (known_bytes x.image.now x.bytes))
-
   block_length : (at next : ℕ) → length (block_as at next (the_channel x)) ≡ 228
   unfolding block_as
   block_length at next =
       let cn = cn_of at (some next) (the_channel x) in
-      formed λ size ok. ap length (sym (cn_written_lem cn refl)) ∙ length_cn cn ok.fields.main ok.fields.added
+      channel_formed x λ size ok. ap length (sym (cn_written_lem cn refl)) ∙ length_cn cn ok.fields.main ok.fields.added
 
   pub channel_written : (at next : ℕ) (b : Bodies) → BodiesAre b (the_channel x) → {o₀ o₁ o₂ : List ℕ}
       → Wrote o₀ o₁ at (block_as at next (the_channel x)) → Wrote o₁ o₂ (at + 228) (bodies_bytes b) → Wrote o₀ o₂ at (channel_as at next (the_channel x))
@@ -143,7 +131,7 @@ module _ (x : Channel) where
 
   pub channel_length_lem : (at : ℕ) (next : Option ℕ) → length (channel_as at (target next) (the_channel x)) ≡ channel_length (the_channel x)
   channel_length_lem at next =
-      formed λ size ok. ap length (sym (channel_as_lem at next (the_channel x))) ∙ length_channel size at next (the_channel x) ok
+      channel_formed x λ size ok. ap length (sym (channel_as_lem at next (the_channel x))) ∙ length_channel size at next (the_channel x) ok
 
 -- the first of a list of channels, and the rest behind it
 pub channels_cons : (p q : ℕ) (c : ReadChannel) (cs : List ReadChannel) → q ≡ p + channel_length c → channels_bytes p (c ∷ cs) ≡ channel_as p (target (link_to_first q cs)) c ++ channels_bytes q cs

@@ -1,3 +1,4 @@
 pub mod Written
 pub mod Channels
 pub mod Sums
+pub mod Peeked

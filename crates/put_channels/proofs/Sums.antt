@@ -1,16 +1,20 @@
--- Lengths added up, one part after the other.
+-- A length that is added up as far as it is needed.
 -- Assumes nothing.
 use Prim.Native.Nat.{ℕ, ◌≤◌, ◌<◌}
-use mathlib.Core.Path.{◌≡◌}
+use mathlib.Core.Path.{◌≡◌, refl}
+use mathlib.Core.Bool.{Bool, true, false}
+use lib.Dec.{leb}
+use borrow.Author.Tests.{leb-true, leb-false}
 use native.Mathlib.Omega.{arith}
-use Rattle.put_channels.specs.Channels.{SumIs}
+use Rattle.put_channels.specs.Channels.{Capped}
 
--- all parts are added
-pub sum_done : (sum count n k : ℕ) → sum ≤ 2147483647 → sum ≡ n → count ≡ k → SumIs (record { length = sum; count = count }) n k
-sum_done sum count n k l e f =
-    record { length = record { exact = λ _. e; over = λ h. absurd (omega arith) }; count = λ _. f; near = omega arith }
+-- it is exact, or both are above the longest copy
+pub by_length : {P : Type 0} {r n : ℕ} → Capped r n → (r ≡ n → P) → (2147483647 < r → 2147483647 < n → P) → P
+by_length {P} {r} {n} c f g = go (leb n 2147483647) refl
+  where
+    go : (t : Bool) → leb n 2147483647 ≡ t → P
+    go true e = f (c.exact (leb-true n 2147483647 e))
+    go false e = g (c.over (leb-false n 2147483647 e)) (leb-false n 2147483647 e)
 
--- enough of them are added to see that there are too many bytes
-pub sum_over : (sum count n k : ℕ) → 2147483647 < sum → sum ≤ n → sum < 4294967296 → SumIs (record { length = sum; count = count }) n k
-sum_over sum count n k h l s =
-    record { length = record { exact = λ m. absurd (omega arith); over = λ _. h }; count = λ m. absurd (omega arith); near = s }
+pub capped_exact : {r n : ℕ} → Capped r n → r ≤ 2147483647 → r ≡ n
+capped_exact c l = by_length c (λ e. e) (λ h g. absurd (omega arith))

@@ -1,109 +1,127 @@
 // The groups of a file: the length of their blocks and records, and both written.
 #![tactic(auto)]
 
-ghost use Rattle.std.specs.Prelude.{◌≡◌, [], ◌+◌, ◌≤◌, length};
+ghost use Rattle.std.specs.Prelude.{◌≡◌, [], ◌+◌, ◌≤◌, ◌<◌, length};
 ghost use Rattle.write.specs.Write.{Wrote};
-ghost use Rattle.answers.specs.Readings.{target};
-ghost use Rattle.answers.specs.Copies.{link_to_first, group_length, groups_length, groups_bytes};
+ghost use Rattle.answers.specs.Copies.{body_length, group_length, groups_length, groups_bytes};
+ghost use Rattle.reading.specs.Bodies.{BodyIs};
 ghost use Rattle.reading.specs.Steps.{AtKeys, groups_left, the_group};
 ghost use Rattle.put_channels.specs.Channels.{Capped, SumIs};
-ghost use Rattle.put_groups.specs.Groups.{link_if, heads_as, blocks_as, ChannelsSum, Known};
+ghost use Rattle.put_groups.specs.Groups.{heads_as, blocks_as, ChannelsSum};
 
 use blocks::Tx;
-use put_channels::Sum;
+use put_channels::{Sum, link_if};
 use reading::{Group, Groups};
+use refusal::LONGEST;
 
 // ---- a group
 
-// The length of its channels, and how many they are.
-fn channels_of(g: Group) -> Sum
-    ensures { ChannelsSum g.entry result }
-{
-    put_channels::channels_sum(g.channels())
+// A group as it stands in the copy: its comment, the sum over its channels, and where each part stands.
+#[derive(Clone, Copy)]
+struct Layout<'a> {
+    group: Group<'a>,
+    at: usize,
+    comment: Option<&'a [u8]>,
+    channels: Sum,
+    ghost commented: { ∥ BodyIs comment (the_group group).comment ∥₁ },
+    ghost summed: { ChannelsSum group channels },
+    ghost near: { at < 9223372036854775808 },
 }
 
-// The length of a group, given that of its channels. Above the longest copy it is not exact.
-fn group_length(g: Group, sum: Sum) -> usize
-    requires { ChannelsSum g sum }
-    ensures { Capped result (group_length (the_group g.entry)) × (58 ≤ result) × (result ≤ 2147483648) }
-{
-    let comment = put_channels::body_length(g.comment());
-    let n = 58 + comment + sum.length + g.count() * g.size();
-    if 2147483647 < n {
-        return 2147483648;
+impl<'a> Layout<'a> {
+    fn of(group: Group<'a>, at: usize) -> Layout<'a>
+        requires { at < 9223372036854775808 }
+        ensures { (result.at ≡ at) × (the_group result.group ≡ the_group group.entry) }
+    {
+        Layout {
+            group,
+            at,
+            comment: group.comment(),
+            channels: put_channels::channels_sum(group.channels()),
+        }
     }
-    n
-}
 
-// The place as a link; nil where n is 0, so that nothing stands there.
-pub fn link_if(n: usize, at: usize) -> usize
-    ensures { result ≡ link_if n at }
-{
-    if n == 0 {
-        return 0;
+    // Where its comment is to stand, its first channel and its records.
+    fn text(self) -> usize
+        ensures { result ≡ self.entry.at + 58 }
+    {
+        self.at + 58
     }
-    at
-}
 
-// The DG block of a group and its CG block.
-fn put_heads(out: &mut [u8], at: usize, g: Group, comment: Option<&[u8]>, sum: Sum, next: usize)
-    requires { Known g comment sum × (at + group_length (the_group g) ≤ length out.old) }
-    ensures { Wrote out.old out.new at (heads_as at next (the_group g.entry)) }
-{
-    let tx = at + 58;
-    let cn = tx + put_channels::body_length(comment);
-    let count = g.count();
-    blocks::put_dg(out, at, next, at + 28, link_if(count, cn + sum.length));
-    let channels = sum.count;
-    let first = link_if(channels, cn);
-    let text = put_channels::body_link(comment, tx);
-    blocks::put_cg(out, at + 28, first, text, channels, g.size(), count);
-}
+    fn first_channel(self) -> usize
+        ensures { (result ≡ self.entry.at + 58 + body_length (the_group self.entry.group).comment) × (result < self.entry.at + 70000) }
+    {
+        self.text() + put_channels::body_length(self.comment)
+    }
 
-// A group with all that it holds but its records, and the link to the next one; and where its records are to stand.
-fn put_blocks(out: &mut [u8], at: usize, g: Group, sum: Sum, next: usize) -> usize
-    requires { ChannelsSum g sum × (group_length (the_group g) ≤ 2147483647) × (at + group_length (the_group g) ≤ length out.old) }
-    ensures { Wrote out.old out.new at (blocks_as at next (the_group g.entry)) × (result ≡ at + length (blocks_as at next (the_group g.entry))) }
-{
-    let comment = g.comment();
-    put_heads(out, at, g, comment, sum, next);
-    let tx = at + 58;
-    put_channels::put_body::<Tx>(out, tx, comment);
-    let cn = tx + put_channels::body_length(comment);
-    put_channels::put_channels(out, cn, g.channels());
-    cn + sum.length
+    fn records(self) -> usize
+        ensures { (result ≡ self.entry.at + 58 + body_length (the_group self.entry.group).comment + self.entry.channels.length) × (result < self.entry.at + 5000000000) }
+    {
+        self.first_channel() + self.channels.length
+    }
+
+    // The length of the group. Above the longest copy it is not exact.
+    fn length(self) -> usize
+        ensures { Capped result (group_length (the_group self.entry.group)) × (58 ≤ result) × (result ≤ 2147483648) }
+    {
+        let n = self.records() - self.at + self.group.count() * self.group.size();
+        n.min(LONGEST + 1)
+    }
+
+    // The DG block of the group and its CG block.
+    fn put_heads(self, out: &mut [u8], next: usize)
+        requires { (group_length (the_group self.group) ≤ 2147483647) × (self.at + group_length (the_group self.group) ≤ length out.old) }
+        ensures { Wrote out.old out.new self.entry.at (heads_as self.entry.at next (the_group self.entry.group)) }
+    {
+        let count = self.group.count();
+        let channels = self.channels.count;
+        let records = link_if(count != 0, self.records());
+        blocks::put_dg(out, self.at, next, self.at + 28, records);
+        let first = link_if(channels != 0, self.first_channel());
+        let text = link_if(self.comment.is_some(), self.text());
+        blocks::put_cg(
+            out,
+            self.at + 28,
+            first,
+            text,
+            channels,
+            self.group.size(),
+            count,
+        );
+    }
+
+    // All of the group but its records, with the link to the next one.
+    fn put_blocks(self, out: &mut [u8], next: usize)
+        requires { (group_length (the_group self.group) ≤ 2147483647) × (self.at + group_length (the_group self.group) ≤ length out.old) }
+        ensures { Wrote out.old out.new self.entry.at (blocks_as self.entry.at next (the_group self.entry.group)) }
+    {
+        self.put_heads(out, next);
+        put_channels::put_body::<Tx>(out, self.text(), self.comment);
+        put_channels::put_channels(out, self.first_channel(), self.group.channels());
+    }
 }
 
 // ---- the groups
 
 // `start` and the lengths of the groups that are left, added up; and how many groups they are.
+// Beside `channels_sum`: a sum over any cursor would promise of the items that it took, and each of the two would have to lead that back to the reading.
 pub fn groups_sum(groups: Groups, start: usize) -> Sum
     requires { start ≤ 2147483647 }
     ensures { SumIs result (start + groups_length (groups_left groups.entry)) (length (groups_left groups.entry)) }
 {
-    let mut c = groups;
-    let mut sum = start;
-    let mut count: usize = 0;
-    // With a count of its own: it ends above the longest copy, so that nothing wraps.
-    while let Some((g, n)) = c.next() {
-        sum += group_length(g, channels_of(g));
-        if 2147483647 < sum {
+    let mut sum = Sum {
+        length: start,
+        count: 0,
+    };
+    // It ends above the longest copy, so that nothing wraps.
+    for g in groups {
+        sum.length += Layout::of(g, 0).length();
+        if LONGEST < sum.length {
             break;
         }
-        count += 1;
-        c = n;
+        sum.count += 1;
     }
-    Sum { length: sum, count }
-}
-
-// The link to the groups that are left, where they stand at a place of the copy.
-fn groups_link(groups: Groups, at: usize) -> usize
-    ensures { result ≡ target (link_to_first at (groups_left groups.entry)) }
-{
-    match groups.next() {
-        Some(_step) => at,
-        None => 0,
-    }
+    sum
 }
 
 // The groups that are left, from a place on.
@@ -115,13 +133,15 @@ pub fn put_groups(out: &mut [u8], at: usize, groups: Groups)
     let mut to = at;
     // where the records that are owed go, by key
     let mut places = [0usize; 256];
-    while let Some((g, n)) = c.next() {
-        let sum = channels_of(g);
-        let end = to + group_length(g, sum);
-        let next = groups_link(n, end);
-        let records = put_blocks(out, to, g, sum, next);
-        put_records::put_records(out, records, g, n, &mut places);
+    while let Some(g) = c.next() {
+        let layout = Layout::of(g, to);
+        let end = to + layout.length();
+        // a copy looks ahead, for the cursor itself is passed on
+        let mut ahead = c;
+        let next = link_if(ahead.next().is_some(), end);
+        layout.put_blocks(out, next);
+        let records = layout.records();
+        put_records::put_records(out, records, g, c, &mut places);
         to = end;
-        c = n;
     }
 }

@@ -1,5 +1,7 @@
 mod Asked
 mod Bodies
+pub mod Formed
+mod Going
 mod Later
 pub mod Numbers
 pub mod Promise

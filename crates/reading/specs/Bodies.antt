@@ -1,6 +1,6 @@
 -- A body of the image, as the code hands it out.
 -- Assumes nothing.
-use Rattle.std.specs.Prelude.{ℕ, ◌+◌, ◌<◌, ◌≡◌, List, Option, Some, None, length}
+use Rattle.std.specs.Prelude.{ℕ, ◌+◌, ◌<◌, ◌≤◌, ◌≡◌, List, Option, Some, None, IfSome, length, take, drop}
 use Rattle.std.specs.Borrow.{Bor}
 use Rattle.std.proofs.Math.Option.{none, some}
 use Rattle.spec.specs.Reading.{Body}
@@ -18,3 +18,15 @@ BodySmall (Some b) = length b.now + 4 < 65536
 pub record BodyIs (r : Option (Bor (List ℕ))) (b : Body) : Type 0 where
   pub is : body_held r ≡ b
   pub small : BodySmall r
+
+-- bytes that are a part of an image, wherever in it
+pub record PartAt (image bytes : List ℕ) : Type 0 where
+  pub place : ℕ
+  pub inside : place + length bytes ≤ length image
+  pub is : bytes ≡ take (length bytes) (drop place image)
+
+abbrev pub PartOf : List ℕ → List ℕ → Type 0
+PartOf image bytes = ∥ PartAt image bytes ∥₁
+
+abbrev pub BodyInside : List ℕ → Option (Bor (List ℕ)) → Type 0
+BodyInside image r = IfSome r (λ b. PartOf image b.now)

@@ -17,7 +17,7 @@ pub fn open<'a>(image: &'a [u8]) -> Result<File<'a>, Refusal>
     let Block::Open(hd) = opened else {
         return Err(opened.refused(64));
     };
-    Ok(File { image, hd })
+    Ok(File { image, hd: hd.span })
 }
 
 // Checks an image and looks for a channel and a record of a group, each counted from 0.

@@ -1,7 +1,8 @@
 -- The numbers of refusals, and a result as an answer of the definitions.
 -- Assumes nothing.
-use Rattle.std.specs.Prelude.{ℕ, Result, Ok, Err, ◌==◌, if◌then◌else◌}
-use Rattle.spec.specs.Answer.{Answer, refused, accepted}
+use Rattle.std.specs.Prelude.{ℕ, Result, Ok, Err, ◌==◌, if◌then◌else◌, leb}
+use Rattle.spec.specs.Answer.{Answer, refused, accepted, ◌>>=◌, require}
+use Rattle.spec.specs.Walk.{most}
 use Rattle.refusal.specs.declared.Reason.{Reason}
 use Rattle.refusal.specs.declared.Reason.TheVariants.{TooLong, NoMdf, Unfinalized, Identification, BlockHead, Unsupported, TooMany, RecordId, Channel, RecordSize, Record, CopyTooLong, NoRoom, NoSuch, NoSample, NoPhysical, BlockIdentifier, BlockSize, BlockEnd}
 use Rattle.refusal.specs.declared.Refusal.{Refusal}
@@ -45,3 +46,9 @@ reason_of n =
 -- a result that holds nothing, as an answer
 abbrev pub done : Result (Unit {0}) Refusal → Answer (Unit {0})
 done = answer_of (λ u. u)
+
+-- what is to be written is not too long, and there is room for it
+unfoldable pub fitting : ℕ → ℕ → Answer (Unit {0})
+fitting length room = do
+  _ ← require (leb length most) 12 0
+  require (leb length room) 13 length

@@ -2,7 +2,10 @@
 #![tactic(auto)]
 
 ghost use Rattle.std.specs.Prelude.{◌≡◌};
-ghost use Rattle.refusal.specs.Refused.{number_of};
+ghost use Rattle.refusal.specs.Refused.{number_of, done, fitting};
+
+// No image, copy or list of differences is longer, in bytes.
+pub const LONGEST: usize = 2147483647;
 
 #[derive(Clone, Copy, PartialEq, Eq)]
 pub enum Reason {
@@ -63,4 +66,17 @@ impl Reason {
             place,
         }
     }
+}
+
+// Whether a copy or a list of this length may be written: it is not too long, and there is room for it.
+pub fn fits(length: usize, room: usize) -> Result<(), Refusal>
+    ensures { done result ≡ fitting length room }
+{
+    if LONGEST < length {
+        return Err(Reason::CopyTooLong.at(0));
+    }
+    if room < length {
+        return Err(Reason::NoRoom.at(length));
+    }
+    Ok(())
 }

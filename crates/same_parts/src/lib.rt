@@ -1,14 +1,16 @@
 // Parts of the readings of two accepted images compared.
 #![tactic(auto)]
 
-ghost use Rattle.std.specs.Prelude.{◌≡◌};
+ghost use Rattle.std.specs.Prelude.{◌≡◌, ◌≤◌, ◌&&◌, length};
 ghost use Rattle.answers.specs.Differences.{same_bytes, same_body, same_channel, same_own, same_header};
 ghost use Rattle.reading.specs.Bodies.{body_held};
 ghost use Rattle.reading.specs.Steps.{reading_of, the_group, the_channel};
+ghost use Rattle.write.specs.Write.{filled};
 ghost use Rattle.same_parts.specs.Same.{same_fields, same_bodies, later_length};
 
-use reading::{Channel, File, Group};
+use reading::{Carried, Channel, File, Group};
 
+// Not by `==`, whose promise is not that of the definition.
 fn same_body(x: Option<&[u8]>, y: Option<&[u8]>) -> bool
     ensures { result ≡ same_body (body_held x.entry) (body_held y.entry) }
 {
@@ -19,15 +21,21 @@ fn same_body(x: Option<&[u8]>, y: Option<&[u8]>) -> bool
     }
 }
 
+// Carried fields, with the zeros that are not held: of those behind the main ones there are n and m.
+fn same_carried(x: Carried, n: usize, y: Carried, m: usize) -> bool
+    requires { (length x.later.now ≤ n) × (length y.later.now ≤ m) }
+    ensures { result ≡ (same_bytes x.entry.main.now y.entry.main.now && same_bytes (filled x.entry.later.now n) (filled y.entry.later.now m)) }
+{
+    alike::same_part(x.main, y.main) && alike::same_padded(x.later, n, y.later, m)
+}
+
 // ---- channels
 
 // The carried fields of two channels.
 fn same_fields(x: Channel, y: Channel) -> bool
     ensures { result ≡ same_fields (the_channel x.entry) (the_channel y.entry) }
 {
-    let f = x.fields();
-    let g = y.fields();
-    alike::same_part(f.main, g.main) && alike::same_padded(f.later, 2, g.later, 2)
+    same_carried(x.fields(), 2, y.fields(), 2)
 }
 
 // Their bodies.
@@ -78,13 +86,10 @@ fn later_length(f: File) -> usize
 pub fn same_header(f: File, g: File) -> bool
     ensures { result ≡ same_header (reading_of f.entry) (reading_of g.entry) }
 {
-    let x = f.fields();
-    let y = g.fields();
-    let n = later_length(f);
-    let m = later_length(g);
-    alike::same_part(x.main, y.main) && alike::same_padded(x.later, n, y.later, m)
+    same_carried(f.fields(), later_length(f), g.fields(), later_length(g))
 }
 
+// One for each part of the file, named in its promise.
 pub fn same_comment(f: File, g: File) -> bool
     ensures { result ≡ same_body (reading_of f.entry).comment (reading_of g.entry).comment }
 {

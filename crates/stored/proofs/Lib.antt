@@ -1,4 +1,3 @@
-pub mod Maps
 mod Rows
 pub mod Sampling
 mod Storing

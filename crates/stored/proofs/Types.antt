@@ -1,8 +1,7 @@
 -- The data types by the keys of the code's match.
 -- Assumes nothing.
 use Prim.Native.Nat.{ℕ, zero, suc, ◌+◌, ◌-◌, ◌≤◌, ◌<◌}
-use mathlib.Core.Path.{◌≡◌, refl, sym, ◌∙◌, ap}
-use mathlib.Core.Bool.{Bool}
+use mathlib.Core.Path.{◌≡◌, refl, sym, ◌∙◌, ap, ap₂}
 use mathlib.Core.Logic.{inl, inr}
 use mathlib.Core.List.{List, [], ◌∷◌}
 use native.Mathlib.Omega.{arith}
@@ -11,14 +10,15 @@ use types.Run.{OneOf}
 use Rattle.std.specs.Prelude.{Result, None}
 use Rattle.answers.specs.Samples.{Encoding, unsigned_integer, signed_integer, single_float, double_float, unreadable, DataType, data_types, type_of, type_at, stored_as}
 use Rattle.bits.specs.Bits.{order_of}
+use Rattle.bits.specs.declared.Order.{Order}
 use Rattle.reading.specs.declared.Signal.{Signal}
 use Rattle.refusal.specs.declared.Refusal.{Refusal}
 use Rattle.stored.specs.declared.Stored.{Stored}
-use Rattle.stored.specs.Stored.{typed, ReadAs, answer_at, big_of}
+use Rattle.stored.specs.Stored.{typed, ReadAs, answer_at}
 
--- a data type of this encoding, in the code's byte order
+-- a data type of this encoding
 abbrev Reads : Encoding → ℕ → Type 0
-Reads e k = type_at k ≡ record { encoding = e; order = order_of (big_of k) }
+Reads e k = (type_at k).encoding ≡ e
 
 one_of_three : (P : ℕ → Type 0) (a b c k : ℕ) → P a → P b → P c → OneOf (a ∷ b ∷ c ∷ []) k → P k
 one_of_three P a b c k p q r (inl e) = rw e p
@@ -71,13 +71,12 @@ module _ (k : ℕ)
 
 module _ {image : List ℕ} {at : ℕ} {s : Signal} {field : ℕ} where
   -- the data type that the code read by is the channel's
-  pub read_as : (e : Encoding) (big : Bool) {r : Result Stored Refusal} → Reads e s.data_type → big ≡ big_of s.data_type → ReadAs (typed e big) image at s field r → ReadAs type_of image at s field r
-  read_as e big t b h =
+  pub read_as : (e : Encoding) (o : Order) {r : Result Stored Refusal} → Reads e s.data_type → order_of o ≡ (type_at s.data_type).order → ReadAs (typed e o) image at s field r → ReadAs type_of image at s field r
+  read_as e o t b h =
       record {
         is = λ f x i.
             h.is f x i
-            ∙ ap (λ o. stored_as e (order_of o) f field x) b
-            ∙ ap (λ (d : DataType). stored_as d.encoding d.order f field x) (sym t)
+            ∙ ap₂ (λ g q. stored_as g q f field x) (sym t) b
             ∙ ap (λ n. stored_as (type_at n).encoding (type_at n).order f field x) i.signal.data_type_lem;
         fits = h.fits;
       }

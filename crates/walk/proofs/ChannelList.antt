@@ -17,10 +17,8 @@ use Rattle.spec.proofs.Answers.{step, stop}
 use Rattle.refusal.specs.declared.Reason.{Reason}
 use Rattle.image.specs.declared.Block.TheVariants.{Shut}
 use Rattle.image.specs.declared.Span.{Span}
-use Rattle.image.specs.declared.Block.{Block}
 use Rattle.image.specs.Spans.{block_of, block_in, opened_as}
-use Rattle.image.proofs.Blocks.{not_nil, Stands, open_open}
-use Rattle.walk.proofs.Channels.{found_refused}
+use Rattle.image.proofs.Blocks.{not_nil, Stands, open_open, open_shut}
 use Rattle.walk.specs.Lists.{channels_from}
 
 -- what a step of the code says of the definition's answer
@@ -56,10 +54,9 @@ module _ (image : Image) (size field l n : ℕ) where
       one_left : 16384 - n ≡ suc (16384 - (n + 1))
       one_left = omega arith
 
-      pub channels_shut : {r : Reason} {x : Block} → x ≡ block_of l (opening cn_kind image l) → x ≡ Shut r
-          → channels_from image size field l n ≡ refused (number_of r) field
+      pub channels_shut : {r : Reason} → Shut r ≡ block_of l (opening cn_kind image l) → channels_from image size field l n ≡ refused (number_of r) field
       unfolding channels_from channel_list
-      channels_shut o e = rw (not_nil l h, one_left) (ap (map_answer (λ xs. n + length xs)) (stop _ (found_refused cn_kind read_cn image field l o e)))
+      channels_shut o = rw (not_nil l h, one_left) (ap (map_answer (λ xs. n + length xs)) (stop _ (open_shut cn_kind read_cn image field l o)))
 
       module _ (b : Span) (s : Stands cn_kind image l b) where
         pub channels_stop : {e : Refusal} {x : Result (Unit {0}) Refusal} → done x ≡ passed (channel_at image size (opened_as read_cn image.bytes b)) → x ≡ Err e

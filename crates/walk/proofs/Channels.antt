@@ -2,29 +2,29 @@
 -- Assumes nothing.
 use Prim.Native.Nat.{ℕ, ◌+◌, ◌*◌, ◌≤◌, ◌<◌}
 use mathlib.Core.Path.{◌≡◌, refl, sym, ◌∙◌, ap}
-use mathlib.Core.Bool.{Bool, true, false, not}
+use mathlib.Core.Bool.{Bool, true, false, not, ◌||◌}
 use mathlib.Core.List.{List}
 use native.Mathlib.Omega.{arith}
 use lib.Dec.{leb, eqb}
 use lib.ListN.{length, take, drop, length-drop}
+use Rattle.std.specs.Int.{div_ceil}
 use lib.Seq.{drop-drop}
-use borrow.Author.Tests.{le-leb, lt-leb, eq-eqb, ne_eqb}
+use borrow.Author.Tests.{leb-true, leb-false, le-leb, lt-leb, eq-eqb, ne_eqb}
 use Rattle.std.specs.Prelude.{Result, Ok, Err}
 use Rattle.refusal.specs.declared.Refusal.{Refusal}
 use Rattle.refusal.specs.Refused.{number_of, done}
 use Rattle.spec.specs.Bytes.{number, u16, to_link, is_nil}
 use Rattle.spec.specs.Answer.{Answer, refused, accepted, ◌>>=◌, require, passed}
-use Rattle.spec.specs.Block.{Kind, Image, cc_kind, opening, Opened, open_as, body_of, body_at, formula, Fields, channel_type, start_bit, bit_count, data_type, added_offset, bits_fit, CnBlock}
+use Rattle.spec.specs.Block.{Image, cc_kind, opening, Opened, body_of, body_at, formula, Fields, channel_type, start_bit, bit_count, data_type, added_offset, bits_fit, CnBlock}
 use Rattle.spec.specs.Walk.{fields_pass, formula_passes, conversion_at, channel_at}
 use Rattle.spec.proofs.Answers.{step, pass, stop, fail}
 use Rattle.spec.proofs.Places.{field_in}
 use Rattle.refusal.specs.declared.Reason.{Reason}
-use Rattle.image.specs.declared.Block.TheVariants.{Open, Shut}
+use Rattle.image.specs.declared.Block.TheVariants.{Shut}
 use Rattle.image.specs.declared.Span.{Span}
-use Rattle.image.specs.declared.Block.{Block}
 use Rattle.image.specs.Spans.{block_of, block_in}
 use Rattle.image.proofs.Fields.{block_length}
-use Rattle.image.proofs.Blocks.{not_nil, Stands, stands, open_shut, body_shut, body_open}
+use Rattle.image.proofs.Blocks.{not_nil, Stands, body_shut, body_open}
 use Rattle.walk.specs.Steps.{◌then◌, bodies_first, bodies_last}
 
 -- ---- steps
@@ -76,19 +76,25 @@ is_link x h = rw (not_nil x h)
 pub is_none : (x : ℕ) → x ≡ 0 → is_nil (to_link x) ≡ true
 is_none x e = rw e
 
+-- a number that is 0 allows no other: of a record's size and count, of a mode and its groups
+module _ (x y : ℕ) where
+  pub other_left : x ≡ 0 → (y ≡ 0 → ⊥) → not (eqb x 0) || eqb y 0 ≡ false
+  other_left e d = rw (e, ne_eqb y 0 d)
+
+  pub none_left : y ≡ 0 → not (eqb x 0) || eqb y 0 ≡ true
+  none_left e = go (not (eqb x 0)) (eq-eqb y 0 e)
+    where
+      go : (t : Bool) {u : Bool} → u ≡ true → t || u ≡ true
+      go true e = refl
+      go false e = e
+
+  pub any_left : (x ≡ 0 → ⊥) → not (eqb x 0) || eqb y 0 ≡ true
+  any_left d = rw (ne_eqb x 0 d)
+
 then_stops : {A B : Type 0} (m : Answer A) (f : A → Answer B) {n p : ℕ} → refused n p ≡ passed m → refused n p ≡ passed (m >>= f)
 unfolding ◌>>=◌
 then_stops (refused n p) f e = e
 then_stops (accepted a) f e = let z : ◌≡◌ {A = ℕ} 0 1 = cc in absurd (omega arith)
-
--- a block found behind a link stands there
-pub found_stands : (k : Kind) (image : Image) (p : ℕ) {b : Span} {x : Block} → x ≡ block_of p (opening k image p) → x ≡ Open b → Stands k image p b
-found_stands k image p {b} o e = stands k image p b (sym e ∙ o)
-
--- and one that is not found is refused
-pub found_refused : {A : Type 0} (k : Kind) (read : List ℕ → A) (image : Image) (field p : ℕ) {r : Reason} {x : Block}
-    → x ≡ block_of p (opening k image p) → x ≡ Shut r → open_as k read image field p ≡ refused (number_of r) field
-found_refused k read image field p o e = open_shut k read image field p (sym e ∙ o)
 
 -- ---- conversion
 
@@ -128,8 +134,16 @@ module _ (w : ℕ) (f : Fields) where
   pub bits_none : bit_count f ≡ 0 → true ≡ bits_fit w f
   bits_none e = rw (eq-eqb (bit_count f) 0 e)
 
-  pub bits_some : (bit_count f ≡ 0 → ⊥) → leb (start_bit f + 8 * added_offset f + bit_count f) (8 * w) ≡ bits_fit w f
-  bits_some d = rw (ne_eqb (bit_count f) 0 d)
+  -- as many bytes as hold so many bits
+  whole_bytes : (n : ℕ) → leb (div_ceil n 8) w ≡ leb n (8 * w)
+  whole_bytes n = go (leb n (8 * w)) refl
+    where
+      go : (t : Bool) → leb n (8 * w) ≡ t → leb (div_ceil n 8) w ≡ t
+      go true e = le-leb _ _ (omega (arith, leb-true _ _ e))
+      go false e = lt-leb _ _ (omega (arith, leb-false _ _ e))
+
+  pub bits_some : (bit_count f ≡ 0 → ⊥) → leb (div_ceil (start_bit f + 8 * added_offset f + bit_count f) 8) w ≡ bits_fit w f
+  bits_some d = whole_bytes _ ∙ rw (ne_eqb (bit_count f) 0 d)
 
   module _ (p : ℕ) where
     pub wrong_type : 1 < channel_type f → refused 9 (p + 24) ≡ fields_pass w p f

@@ -17,12 +17,11 @@ use Rattle.spec.proofs.Answers.{step, pass, stop, fail}
 use Rattle.refusal.specs.declared.Reason.{Reason}
 use Rattle.image.specs.declared.Block.TheVariants.{Shut}
 use Rattle.image.specs.declared.Span.{Span}
-use Rattle.image.specs.declared.Block.{Block}
 use Rattle.refusal.specs.Refused.{number_of}
 use Rattle.image.specs.Spans.{block_of, block_in, opened_as}
-use Rattle.image.proofs.Blocks.{not_nil, Stands, open_open}
+use Rattle.image.proofs.Blocks.{not_nil, Stands, open_open, open_shut}
 use Rattle.walk.specs.Steps.{◌then◌, group_head}
-use Rattle.walk.proofs.Channels.{then_assoc, found_refused}
+use Rattle.walk.proofs.Channels.{then_assoc}
 use Rattle.walk.specs.Lists.{channels_from, group_at, slot_in, Summary, summed, groups_from}
 
 -- ---- steps and answers
@@ -116,11 +115,10 @@ module _ (image : Image) (mode : ℕ) (ss : List Slot) (used : List ℕ) (field 
       groups_second e = rw (not_nil l h, one_left) (ap (summed ss n) (stop _ (fail _ _ _ e)))
 
       module _ (allowed : group_allowed mode used ≡ true) where
-        pub groups_shut : {r : Reason} {x : Block} → x ≡ block_of l (opening cg_kind image l) → x ≡ Shut r
-            → groups_from image mode ss used field l g n ≡ refused (number_of r) field
+        pub groups_shut : {r : Reason} → Shut r ≡ block_of l (opening cg_kind image l) → groups_from image mode ss used field l g n ≡ refused (number_of r) field
         unfolding groups_from group_list
-        groups_shut o e =
-            rw (not_nil l h, one_left) (ap (summed ss n) (step _ (pass _ _ _ allowed) (stop _ (found_refused cg_kind (read_cg image.version) image field l o e))))
+        groups_shut o =
+            rw (not_nil l h, one_left) (ap (summed ss n) (step _ (pass _ _ _ allowed) (stop _ (open_shut cg_kind (read_cg image.version) image field l o))))
 
         module _ (b : Span) (s : Stands cg_kind image l b) where
           turn : groups_from image mode ss used field l g n ≡ (group_at image mode (elem (u16 16 (block_in image.bytes b)) used) n b >>= onwards image mode ss used g n b)

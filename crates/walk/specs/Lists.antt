@@ -18,7 +18,7 @@ use Rattle.walk.specs.Steps.{◌then◌, group_head}
 
 -- a cursor at a link field with its link, with these counts
 abbrev pub StandsAt : Cursor → ℕ → ℕ → ℕ → ℕ → ℕ → Type 0
-StandsAt c field link dgs cgs cns = (c.field ≡ field) × (c.link ≡ link) × (c.dgs ≡ dgs) × (c.cgs ≡ cgs) × (c.cns ≡ cns)
+StandsAt c field link dgs cgs cns = (c.link.field ≡ field) × (c.link.to ≡ link) × (c.dgs ≡ dgs) × (c.cgs ≡ cgs) × (c.cns ≡ cns)
 
 -- ---- channels
 
@@ -48,7 +48,7 @@ group_at image mode known n b =
 -- past the group in b
 abbrev pub PastGroup : List ℕ → Cursor → Span → Result Cursor Refusal → Type 0
 PastGroup image c b (Ok d) =
-    (d.field ≡ b.at + 4) × (d.link ≡ u32 4 (block_in image b)) × (d.dgs ≡ c.dgs) × (d.cgs ≡ c.cgs + 1) × (d.cns ≤ 16384)
+    (d.link.field ≡ b.at + 4) × (d.link.to ≡ u32 4 (block_in image b)) × (d.dgs ≡ c.dgs) × (d.cgs ≡ c.cgs + 1) × (d.cns ≤ 16384)
 PastGroup image c b (Err e) = Unit {0}
 
 -- the slot of the group in b

@@ -1,114 +1,114 @@
 // Channels and channel groups, against the definitions of `spec`: refusals 5 to 10 and 17 to 19.
 #![tactic(auto)]
 
-ghost use Rattle.std.specs.Prelude.{◌≡◌, ◌+◌, ◌≤◌, ◌<◌, not, ◌||◌, [], eqb, length};
-ghost use Rattle.spec.specs.Bytes.{u16, to_link};
+ghost use Rattle.std.specs.Prelude.{◌≡◌, ◌+◌, ◌≤◌, ◌<◌, []};
+ghost use Rattle.spec.specs.Bytes.{u16, u32, to_link};
 ghost use Rattle.spec.specs.Answer.{passed};
 ghost use Rattle.spec.specs.Block.{image_of, read_cg, read_cn, read_fields, bits_fit};
 ghost use Rattle.spec.specs.Walk.{fields_pass, conversion_at, channel_at, elem};
 ghost use Rattle.refusal.specs.Refused.{done};
-ghost use Rattle.image.specs.Spans.{block_in, Holds, opened_as};
+ghost use Rattle.image.specs.Opened.{bytes_of, read_as};
 ghost use Rattle.walk.specs.Steps.{bodies_first, bodies_last, id_passes, group_head};
 ghost use Rattle.walk.specs.Lists.{StandsAt, channels_from, channels_met, OnlyChannels, ids_of, group_at, PastGroup, slot_in, groups_from, groups_met, OnlyGroups};
 ghost use Rattle.records.specs.Slots.{slot_seen};
 
-use image::{Block, Cc, Ce, Cg, Cn, Kind, Span, Tx};
+use image::{Block, Cc, Ce, Cg, Cn, Kind, Link, Opened, Tx};
 use records::Slot;
 use refusal::{Reason, Refusal};
 
+// So many data groups or channel groups a file may have, and so many channels.
+pub const MOST_GROUPS: usize = 1024;
+
+pub const MOST_CHANNELS: usize = 16384;
+
 // ---- a channel
 
-// The CC behind its link in the CN block at a place, and its formula.
-fn conversion(image: &[u8], at: usize, link: usize) -> Result<(), Refusal>
-    requires { at + 8 ≤ length image.now }
-    ensures { done result ≡ passed (conversion_at (image_of image.now) at (to_link link)) }
+// The CC behind its link in an opened CN block, and its formula.
+fn conversion(cn: Opened<Cn>) -> Result<(), Refusal>
+    ensures { done result ≡ passed (conversion_at (image_of cn.entry.image.now) cn.entry.span.at (to_link (u32 8 (bytes_of cn.entry)))) }
 {
-    if link == 0 {
+    let link = cn.link(8);
+    if link.to == 0 {
         return Ok(());
     }
-    let opened = Cc::open(image, link);
+    let opened = Cc::open(cn.image, link.to);
     let Block::Open(cc) = opened else {
-        return Err(opened.refused(at + 8));
+        return Err(opened.refused(link.field));
     };
-    if image::u16_in(image, cc, 42) == 12 {
-        return Err(Reason::Unsupported.at(cc.at + 42));
+    // formula 12: a table of text ranges
+    if cc.u16(42) == 12 {
+        return Err(Reason::Unsupported.at(cc.span.at + 42));
     }
     Ok(())
 }
 
 // Whether the bits of a channel lie in a record of this size.
-fn bits_fit(image: &[u8], cn: Span, size: usize) -> bool
-    requires { Holds 218 image.now cn × (size < 65536) }
-    ensures { result ≡ bits_fit size (read_fields (block_in image.now cn)) }
+fn bits_fit(cn: Opened<Cn>, size: usize) -> bool
+    ensures { result ≡ bits_fit size (read_fields (bytes_of cn.entry)) }
 {
-    let bits = image::u16_in(image, cn, 188);
+    let bits = cn.u16(188);
     if bits == 0 {
         return true;
     }
-    let start = image::u16_in(image, cn, 186);
-    let added = image::u16_in(image, cn, 226);
-    start + 8 * added + bits <= 8 * size
+    let start = cn.u16(186);
+    let added = cn.u16(226);
+    (start + 8 * added + bits).div_ceil(8) <= size
 }
 
 // Type, bits and data type of a channel.
-fn fields_pass(image: &[u8], cn: Span, size: usize) -> Result<(), Refusal>
-    requires { Holds 218 image.now cn × (size < 65536) }
-    ensures { done result ≡ fields_pass size cn.at (read_fields (block_in image.now cn)) }
+fn fields_pass(cn: Opened<Cn>, size: usize) -> Result<(), Refusal>
+    ensures { done result ≡ fields_pass size cn.entry.span.at (read_fields (bytes_of cn.entry)) }
 {
-    let at = cn.at;
-    if 1 < image::u16_in(image, cn, 24) {
+    let at = cn.span.at;
+    if 1 < cn.u16(24) {
         return Err(Reason::Channel.at(at + 24));
     }
-    if !bits_fit(image, cn, size) {
+    if !bits_fit(cn, size) {
         return Err(Reason::Channel.at(at + 186));
     }
-    if 16 < image::u16_in(image, cn, 190) {
+    if 16 < cn.u16(190) {
         return Err(Reason::Channel.at(at + 190));
     }
     Ok(())
 }
 
 // What a channel links to before its fields are tested: conversion, extension, dependency, comment.
-fn channel_first(image: &[u8], cn: Span) -> Result<(), Refusal>
-    requires { Holds 218 image.now cn }
-    ensures { done result ≡ bodies_first (image_of image.now) (opened_as read_cn image.now cn) }
+fn links_before_fields(cn: Opened<Cn>) -> Result<(), Refusal>
+    ensures { done result ≡ bodies_first (image_of cn.entry.image.now) (read_as read_cn cn.entry) }
 {
-    let at = cn.at;
-    conversion(image, at, image::u32_in(image, cn, 8))?;
-    Ce::body(image, at + 12, image::u32_in(image, cn, 12))?;
-    if image::u32_in(image, cn, 16) != 0 {
-        return Err(Reason::Unsupported.at(at + 16));
+    conversion(cn)?;
+    Ce::body(cn.image, cn.link(12))?;
+    let dependency = cn.link(16);
+    if dependency.to != 0 {
+        return Err(Reason::Unsupported.at(dependency.field));
     }
-    Tx::body(image, at + 20, image::u32_in(image, cn, 20))
+    Tx::body(cn.image, cn.link(20))
 }
 
-// And after that: long name, display name.
-fn channel_last(image: &[u8], cn: Span) -> Result<(), Refusal>
-    requires { Holds 218 image.now cn }
-    ensures { done result ≡ bodies_last (image_of image.now) (opened_as read_cn image.now cn) }
+// And after them: long name, display name.
+fn links_after_fields(cn: Opened<Cn>) -> Result<(), Refusal>
+    ensures { done result ≡ bodies_last (image_of cn.entry.image.now) (read_as read_cn cn.entry) }
 {
-    let at = cn.at;
-    Tx::body(image, at + 218, image::u32_in(image, cn, 218))?;
-    Tx::body(image, at + 222, image::u32_in(image, cn, 222))
+    Tx::body(cn.image, cn.link(218))?;
+    Tx::body(cn.image, cn.link(222))
 }
 
 // The bodies that an opened CN block links to, and its fields, in a group of this record size.
-fn channel(image: &[u8], cn: Span, size: usize) -> Result<(), Refusal>
-    requires { Holds 218 image.now cn × (size < 65536) }
-    ensures { done result ≡ passed (channel_at (image_of image.now) size (opened_as read_cn image.now cn)) }
+fn channel(cn: Opened<Cn>, size: usize) -> Result<(), Refusal>
+    ensures { done result ≡ passed (channel_at (image_of cn.entry.image.now) size (read_as read_cn cn.entry)) }
 {
-    channel_first(image, cn)?;
-    fields_pass(image, cn, size)?;
-    channel_last(image, cn)
+    links_before_fields(cn)?;
+    fields_pass(cn, size)?;
+    links_after_fields(cn)
 }
 
 // ---- the cursor
 
-// Where the walk stands: a link field and the link in it, and how many data groups, channel groups and channels it has met.
+// Where the walk stands: a link, and how many data groups, channel groups and channels it has met.
+// Its counts have no bounds as the type's own, for `down` takes any counts, and `past_dg` any of channel groups and channels.
 #[derive(Clone, Copy)]
 pub struct Cursor {
-    pub field: usize,
-    pub link: usize,
+    pub link: Link,
     pub dgs: usize,
     pub cgs: usize,
     pub cns: usize,
@@ -116,11 +116,10 @@ pub struct Cursor {
 
 impl Cursor {
     // At the first link of a file.
-    pub fn new(field: usize, link: usize) -> Self
-        ensures { StandsAt result field link 0 0 0 }
+    pub fn new(link: Link) -> Self
+        ensures { StandsAt result link.field link.to 0 0 0 }
     {
         Cursor {
-            field,
             link,
             dgs: 0,
             cgs: 0,
@@ -129,50 +128,43 @@ impl Cursor {
     }
 
     // At the first link of a list below.
-    pub fn down(self, field: usize, link: usize) -> Self
-        ensures { StandsAt result field link self.dgs self.cgs self.cns }
+    pub fn down(self, link: Link) -> Self
+        ensures { StandsAt result link.field link.to self.dgs self.cgs self.cns }
     {
-        Cursor {
-            field,
-            link,
-            ..self
-        }
+        Cursor { link, ..self }
     }
 
     // Past a data group, at its next link. One for each list: what it counts differs, and up to where.
-    pub fn past_dg(self, field: usize, link: usize) -> Self
+    pub fn past_dg(self, link: Link) -> Self
         requires { self.dgs < 1024 }
-        ensures { StandsAt result field link (self.dgs + 1) self.cgs self.cns }
+        ensures { StandsAt result link.field link.to (self.dgs + 1) self.cgs self.cns }
     {
         Cursor {
             dgs: self.dgs + 1,
-            field,
             link,
             ..self
         }
     }
 
     // Past a channel group.
-    fn past_cg(self, field: usize, link: usize) -> Self
+    fn past_cg(self, link: Link) -> Self
         requires { self.cgs < 1024 }
-        ensures { StandsAt result field link self.dgs (self.cgs + 1) self.cns }
+        ensures { StandsAt result link.field link.to self.dgs (self.cgs + 1) self.cns }
     {
         Cursor {
             cgs: self.cgs + 1,
-            field,
             link,
             ..self
         }
     }
 
     // Past a channel.
-    fn past_cn(self, field: usize, link: usize) -> Self
+    fn past_cn(self, link: Link) -> Self
         requires { self.cns < 16384 }
-        ensures { StandsAt result field link self.dgs self.cgs (self.cns + 1) }
+        ensures { StandsAt result link.field link.to self.dgs self.cgs (self.cns + 1) }
     {
         Cursor {
             cns: self.cns + 1,
-            field,
             link,
             ..self
         }
@@ -181,22 +173,22 @@ impl Cursor {
 
 // The channels of a group of this record size, from the cursor's link on.
 fn channel_list(image: &[u8], size: usize, start: Cursor) -> Result<Cursor, Refusal>
-    requires { (size < 65536) × (start.cns ≤ 16384) }
-    ensures { (channels_met result ≡ channels_from (image_of image.now) size start.field start.link start.cns) × OnlyChannels start result }
+    requires { start.cns ≤ 16384 }
+    ensures { (channels_met result ≡ channels_from (image_of image.now) size start.link.field start.link.to start.cns) × OnlyChannels start result }
 {
     let mut c = start;
-    // along links, so no range of a `for`
-    while c.link != 0 {
-        let field = c.field;
-        if c.cns == 16384 {
+    // No `for`: the cursor goes by value, along links to a nil one. And not one function for all lists: each tests other things on its way.
+    while c.link.to != 0 {
+        let field = c.link.field;
+        if c.cns == MOST_CHANNELS {
             return Err(Reason::TooMany.at(field));
         }
-        let opened = Cn::open(image, c.link);
+        let opened = Cn::open(image, c.link.to);
         let Block::Open(cn) = opened else {
             return Err(opened.refused(field));
         };
-        channel(image, cn, size)?;
-        c = c.past_cn(cn.at + 4, image::u32_in(image, cn, 4));
+        channel(cn, size)?;
+        c = c.past_cn(cn.link(4));
     }
     Ok(c)
 }
@@ -204,11 +196,10 @@ fn channel_list(image: &[u8], size: usize, start: Cursor) -> Result<Cursor, Refu
 // ---- the channel groups of a data group
 
 // Whether the ID of a group is among those of the groups before it in this data group.
-fn known(image: &[u8], cg: Span, slots: &[Slot]) -> bool
-    requires { Holds 26 image.now cg }
-    ensures { result ≡ elem (u16 16 (block_in image.now cg)) (ids_of slots.now) }
+fn known(cg: Opened<Cg>, slots: &[Slot]) -> bool
+    ensures { result ≡ elem (u16 16 (bytes_of cg.entry)) (ids_of slots.now) }
 {
-    let id = image::u16_in(image, cg, 16);
+    let id = cg.u16(16);
     slots.iter().any(|slot| id == usize::from(slot.id))
 }
 
@@ -218,96 +209,87 @@ fn id_passes(mode: usize, id: usize, known: bool) -> bool
     mode == 0 || id <= 255 && !known
 }
 
-// Where the first number is 0, the second is too.
-fn zero_implies(x: usize, y: usize) -> bool
-    ensures { result ≡ (not (eqb x 0) || eqb y 0) }
-{
-    x != 0 || y == 0
-}
-
 // The sample reduction link of a group. Below version 330 it is nil, whatever stands there.
-fn reduction(image: &[u8], cg: Span) -> usize
-    requires { Holds 26 image.now cg }
-    ensures { to_link result ≡ (read_cg (image_of image.now).version (block_in image.now cg)).reduction }
+fn reduction(cg: Opened<Cg>) -> Link
+    ensures { (result.field ≡ cg.entry.span.at + 26) × (to_link result.to ≡ (read_cg (image_of cg.entry.image.now).version (bytes_of cg.entry)).reduction) }
 {
-    if image::version(image) < 330 {
-        return 0;
+    let link = cg.link(26);
+    if image::version(cg.image) < 330 {
+        return Link { to: 0, ..link };
     }
-    image::u32_in(image, cg, 26)
+    link
 }
 
 // The tests of a group before its channels.
-fn group_head(image: &[u8], cg: Span, mode: usize, known: bool) -> Result<(), Refusal>
-    requires { Holds 26 image.now cg }
-    ensures { done result ≡ group_head (image_of image.now) mode known (opened_as (read_cg (image_of image.now).version) image.now cg) }
+fn group_head(cg: Opened<Cg>, mode: usize, known: bool) -> Result<(), Refusal>
+    ensures { done result ≡ group_head (image_of cg.entry.image.now) mode known (read_as (read_cg (image_of cg.entry.image.now).version) cg.entry) }
 {
-    let at = cg.at;
-    if reduction(image, cg) != 0 {
-        return Err(Reason::Unsupported.at(at + 26));
+    let at = cg.span.at;
+    let reduction = reduction(cg);
+    if reduction.to != 0 {
+        return Err(Reason::Unsupported.at(reduction.field));
     }
-    if !id_passes(mode, image::u16_in(image, cg, 16), known) {
+    if !id_passes(mode, cg.u16(16), known) {
         return Err(Reason::RecordId.at(at + 16));
     }
-    Tx::body(image, at + 12, image::u32_in(image, cg, 12))?;
-    if !zero_implies(image::u16_in(image, cg, 20), image::u32_in(image, cg, 22)) {
+    Tx::body(cg.image, cg.link(12))?;
+    if cg.u16(20) == 0 && cg.u32(22) != 0 {
         return Err(Reason::RecordSize.at(at + 20));
     }
     Ok(())
 }
 
 // One group with its channels: past it, the cursor stands at its next link.
-fn group(image: &[u8], cg: Span, mode: usize, known: bool, c: Cursor) -> Result<Cursor, Refusal>
-    requires { Holds 26 image.now cg × (c.cgs < 1024) × (c.cns ≤ 16384) }
-    ensures { (channels_met result ≡ group_at (image_of image.now) mode known c.cns cg) × PastGroup image.now c cg result }
+fn group(cg: Opened<Cg>, mode: usize, known: bool, c: Cursor) -> Result<Cursor, Refusal>
+    requires { (c.cgs < 1024) × (c.cns ≤ 16384) }
+    ensures { (channels_met result ≡ group_at (image_of cg.entry.image.now) mode known c.cns cg.entry.span) × PastGroup cg.entry.image.now c cg.entry.span result }
 {
-    let at = cg.at;
-    group_head(image, cg, mode, known)?;
-    let first = c.down(at + 8, image::u32_in(image, cg, 8));
-    let d = channel_list(image, image::u16_in(image, cg, 20), first)?;
-    Ok(d.past_cg(at + 4, image::u32_in(image, cg, 4)))
+    group_head(cg, mode, known)?;
+    let first = c.down(cg.link(8));
+    let d = channel_list(cg.image, cg.u16(20), first)?;
+    Ok(d.past_cg(cg.link(4)))
 }
 
 // The slot of a group. Each number has the width of its field, so `as` loses nothing.
-fn slot(image: &[u8], cg: Span) -> Slot
-    requires { Holds 26 image.now cg }
-    ensures { slot_seen result ≡ slot_in image.now cg }
+fn slot(cg: Opened<Cg>) -> Slot
+    ensures { slot_seen result ≡ slot_in cg.entry.image.now cg.entry.span }
 {
     Slot {
-        id: image::u16_in(image, cg, 16) as u16,
-        size: image::u16_in(image, cg, 20) as u16,
-        count: image::u32_in(image, cg, 22) as u32,
+        id: cg.u16(16) as u16,
+        size: cg.u16(20) as u16,
+        count: cg.u32(22) as u32,
     }
 }
 
-// The channel groups of a data group in this mode, from the cursor's link on. Their slots come into the table.
+// The channel groups of a data group, from the cursor's link on. The mode is a number: so many ID bytes a record has.
+// Their slots come into a table of the caller's, from its start on: there is no heap.
 pub fn group_list(
     image: &[u8],
     mode: usize,
     start: Cursor,
-    slots: &mut [Slot],
+    slots: &mut [Slot; MOST_GROUPS],
 ) -> Result<Cursor, Refusal>
-    requires { (length slots.old ≡ 1024) × (start.cgs ≤ 1024) × (start.cns ≤ 16384) }
-    ensures { (groups_met start result slots.new ≡ groups_from (image_of image.now) mode [] [] start.field start.link start.cgs start.cns)
-        × OnlyGroups start result
-        × (length slots.new ≡ 1024) }
+    requires { (start.cgs ≤ 1024) × (start.cns ≤ 16384) }
+    ensures { (groups_met start result slots.new ≡ groups_from (image_of image.now) mode [] [] start.link.field start.link.to start.cgs start.cns)
+        × OnlyGroups start result }
 {
     let mut c = start;
-    // along links, so no range of a `for`
-    while c.link != 0 {
-        let field = c.field;
-        if c.cgs == 1024 {
+    // No `for`: the cursor goes by value, along links to a nil one. And not one function for all lists: each tests other things on its way.
+    while c.link.to != 0 {
+        let field = c.link.field;
+        if c.cgs == MOST_GROUPS {
             return Err(Reason::TooMany.at(field));
         }
         let n = c.cgs - start.cgs;
-        if !zero_implies(mode, n) {
+        if mode == 0 && n != 0 {
             return Err(Reason::RecordId.at(field));
         }
-        let opened = Cg::open(image, c.link);
+        let opened = Cg::open(image, c.link.to);
         let Block::Open(cg) = opened else {
             return Err(opened.refused(field));
         };
-        c = group(image, cg, mode, known(image, cg, &slots[..n]), c)?;
-        slots[n] = slot(image, cg);
+        c = group(cg, mode, known(cg, &slots[..n]), c)?;
+        slots[n] = slot(cg);
     }
     Ok(c)
 }

@@ -1,7 +1,7 @@
-// Writes bytes over a lent slice, from a place on.
+// Writes bytes over a lent slice, from a place on. Memory and place are two parameters: places are also what links say, and a contract speaks of the whole memory.
 #![tactic(auto)]
 
-ghost use Rattle.std.specs.Prelude.{◌+◌, ◌-◌, ◌≤◌, length, take, drop, replicate};
+ghost use Rattle.std.specs.Prelude.{◌+◌, ◌≤◌, length, replicate};
 ghost use Rattle.spec.specs.Bytes.{bytes_of};
 ghost use Rattle.write.specs.Write.{Wrote, filled};
 
@@ -10,22 +10,10 @@ pub fn put_all(out: &mut [u8], at: usize, src: &[u8])
     requires { at + length src.now ≤ length out.old }
     ensures { Wrote out.old out.new at src.now }
 {
-    // no `copy_from_slice`: it calls `memmove` of the C library, which nothing else here needs
+    // no `copy_from_slice`: where the length is no constant it calls `memmove` of the C library, which nothing else needs
     for (k, byte) in src.iter().enumerate() {
         out[at + k] = *byte;
     }
-}
-
-// `len` bytes of `src` from `from` on.
-pub fn put_part(out: &mut [u8], at: usize, src: &[u8], from: usize, len: usize)
-    requires { (at + len ≤ length out.old) × (len ≤ length src.now - from) }
-    ensures { Wrote out.old out.new at (take len (drop from src.now)) }
-{
-    // then `from` may lie behind the end
-    if len == 0 {
-        return;
-    }
-    put_all(out, at, &src[from..from + len]);
 }
 
 pub fn put_zeros(out: &mut [u8], at: usize, n: usize)

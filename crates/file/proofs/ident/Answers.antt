@@ -1,13 +1,9 @@
 use Rattle.file.proofs.Files.{within, ident_refused, ident_order, ident_floats, ident_version, ident_good}
 use Rattle.image.proofs.Ident.{ident_shut, ident_stands}
 use Rattle.spec.specs.Bytes.{u16}
-use Rattle.image.proofs.Blocks.{shut}
 use native.Mathlib.Omega.{arith}
 use mathlib.Core.Path.{sym, ◌∙◌, ap}
 use Rattle.file.proofs.ident.Goals as goal
-
-pub refused-requires : goal.refused-requires
-refused-requires c = shut c.in_default.is
 
 pub returns-in_default : goal.returns-in_default
 returns-in_default c =

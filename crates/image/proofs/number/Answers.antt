@@ -1,43 +1,29 @@
-use Rattle.image.proofs.Numbers.{number_turn, width_turn, width_small, number_past, number_none, width_pos}
+use Rattle.image.proofs.Numbers.{read_fits, all_read, read_small, number_past, width_most, width_pos}
 use native.Mathlib.Omega.{arith}
-use mathlib.Core.Path.{◌≡◌, sym, ◌∙◌}
-use Prim.Native.Nat.{◌+◌, ◌-◌}
+use lib.ListN.{length}
+use mathlib.Core.Path.{sym, ◌∙◌}
 use Rattle.image.proofs.number.Goals as goal
 
-pub returns-then-image-at : goal.returns-then-image-at
-returns-then-image-at c = (sym (number_past _ _ _ c.if-image-at.true), width_pos _)
-
-pub loop-k-init : goal.loop-k-init
-loop-k-init c =
-    let a = c.args in
-    let e : a.n - a.n ≡ 0 = omega arith in
-    rw e (omega arith, sym (number_none _ _), omega arith)
+pub returns-in_default : goal.returns-in_default
+returns-in_default c = (sym (number_past _ _ _ (let l = c.in_default.ensures.lookup.0 in omega arith)), width_pos _)
 
 pub overflow_mul-v : goal.overflow_mul-v
 overflow_mul-v c =
-    let l = c.loop-k in
-    let t = width_small c.args.n l.k l.v (omega arith) (omega arith) l.invariant.2 in
-    omega arith
+    let l = c.loop-x in
+    let t = read_small l.x-iterator.iter.rest.now _ c.args.image.now _ l.yielded c.args.at c.args.n l.v c.in-Some-x.ensures.steps l.invariant.0 c.requires l.invariant.2 in
+    omega (arith, t)
 
 pub overflow_add-v : goal.overflow_add-v
 overflow_add-v c =
-    let l = c.loop-k in
-    let t = width_small c.args.n l.k l.v (omega arith) (omega arith) l.invariant.2 in
-    omega arith
-
-pub loop-k-preserved : goal.loop-k-preserved
-loop-k-preserved c =
-    let a = c.args in
-    let l = c.loop-k in
-    let e = number_turn a.image.now a.at a.n l.k (omega arith) (omega arith) in
-    let m = width_turn a.n l.k (omega arith) (omega arith) in
-    (omega arith, omega arith, omega arith)
+    let l = c.loop-x in
+    let t = read_small l.x-iterator.iter.rest.now _ c.args.image.now _ l.yielded c.args.at c.args.n l.v c.in-Some-x.ensures.steps l.invariant.0 c.requires l.invariant.2 in
+    omega (arith, t)
 
 pub returns : goal.returns
 returns c =
-    let a = c.args in
-    let l = c.loop-k in
-    let z : l.k ≡ 0 = omega arith in
-    let m : a.n - 0 ≡ a.n = omega arith in
-    let p : a.at + 0 ≡ a.at = omega arith in
-    (l.invariant.1 ∙ rw (z, m, p), rw (z, m) at l.invariant.2)
+    let l = c.loop-x in
+    let left = l.x-iterator.iter.rest.now in
+    let f = read_fits left c.args.image.now l.yielded c.args.at c.args.n l.invariant.0 in (
+      l.invariant.1 ∙ all_read left c.args.image.now l.yielded c.args.at c.args.n c.in-None.ensures.steps.0 l.invariant.0,
+      width_most c.args.n (length l.yielded) l.v (omega (arith, f)) l.invariant.2,
+    )

@@ -1,10 +1,12 @@
-use Rattle.image.specs.Spans.{number_at}
+use Rattle.std.specs.Prelude.{◌++◌, length, take, drop}
+use Rattle.spec.specs.Bytes.{number}
+use Rattle.image.proofs.Numbers.{read_back}
 use mathlib.Core.Path.{◌≡◌}
-use Prim.Native.Nat.{◌+◌, ◌-◌, ◌^◌, ◌≤◌, ◌<◌}
+use Prim.Native.Nat.{◌^◌, ◌<◌}
 use Rattle.image.proofs.number.Given as goal
 
-abbrev pub invariant-loop-k : goal.invariant-loop-k
-invariant-loop-k l = (l.k ≤ l.n) × (l.v ≡ number_at l.image (l.at + l.k) (l.n - l.k)) × (l.v < 256 ^ (l.n - l.k))
-
-abbrev pub decreases-loop-k : goal.decreases-loop-k
-decreases-loop-k l = l.k
+abbrev pub invariant-loop-x : goal.invariant-loop-x
+invariant-loop-x l =
+    (l.x-iterator.iter.rest.now ++ read_back l.yielded ≡ take l.n (drop l.at l.image))
+    × (l.v ≡ number (read_back l.yielded))
+    × (l.v < 256 ^ length l.yielded)

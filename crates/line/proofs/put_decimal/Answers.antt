@@ -19,9 +19,6 @@ loop-left-preserved c =
     let t = digits_turn l.k l.left (drop l.k l.text) (omega arith) (omega arith) in
     (omega arith, omega arith, simp length-set l.invariant.2, w.1, rw d (t ∙ l.invariant.4))
 
-pub put_part-requires : goal.put_part-requires
-put_part-requires c = (omega arith, simp length-set (omega arith))
-
 pub returns : goal.returns
 returns c =
     let l = c.loop-left in
@@ -30,4 +27,4 @@ returns c =
     let d = digits_last l.k l.left (drop l.k l.text) (omega arith) (omega arith) in
     let e = drop_stored l.text l.k (48 + l.left) (omega arith) (omega arith) ∙ sym d ∙ l.invariant.4 in
     let a = take_all (20 - (l.k - 1)) (drop (l.k - 1) t) (omega arith) in
-    (wrote_as c.put_part.ensures refl (a ∙ e), omega (arith, ap length e), omega arith)
+    (wrote_as c.put_all.ensures refl (a ∙ e), omega (arith, ap length e), omega arith)

@@ -1,13 +1,9 @@
-use Rattle.listing.specs.Listing.{Listing}
+use Rattle.listing.specs.Growing.{Listing}
 use Rattle.answers.specs.Differences.{alone}
 use Rattle.reading.specs.Steps.{channels_left}
 use Prim.Native.Nat.{◌+◌}
-use lib.ListN.{length}
 use Rattle.list_channels.proofs.list_alone.Given as goal
 
-abbrev pub invariant-loop-to : goal.invariant-loop-to
-invariant-loop-to l =
-    Listing (alone 3 l.group (l.initial.c.index + 1) (channels_left l.initial.c)) l.initial.out l.out l.at l.to (alone 3 l.group (l.c.index + 1) (channels_left l.c))
-
-abbrev pub decreases-loop-to : goal.decreases-loop-to
-decreases-loop-to l = length (channels_left l.c)
+abbrev pub invariant-loop-x : goal.invariant-loop-x
+invariant-loop-x l =
+    Listing (alone 3 l.group (l.initial.channels.index + 1) (channels_left l.initial.channels)) l.initial.list l.list (alone 3 l.group (l.x-iterator.index + 1) (channels_left l.x-iterator))

@@ -1,52 +1,35 @@
 use Rattle.listing.proofs.Laws as l
-use Rattle.answers.specs.Differences.{entry, unless, same_channel, alone}
-use Rattle.reading.specs.Steps.{channels_left, the_channel}
-use Rattle.list_channels.proofs.Channels.{none_left, none_right, both_next}
+use Rattle.answers.specs.Differences.{entry, unless, channel_entries}
+use Rattle.reading.specs.Steps.{channels_left}
+use Rattle.list_channels.proofs.Channels.{both_next, next_alone, still_abreast, rest_alone}
 use Prim.Native.Nat.{◌+◌}
-use lib.ListN.{length}
-use mathlib.Core.Path.{sym, ap, ap₂, ◌∙◌}
-use native.Mathlib.Omega.{arith}
+use mathlib.Core.List.{◌++◌}
+use mathlib.Core.Path.{◌≡◌, ap, ◌∙◌}
 use Rattle.list_channels.proofs.list_channels.Goals as goal
+use Rattle.list_channels.proofs.list_channels.Goals.{in-Some-next, in-None-next}
 
-pub loop-to-init : goal.loop-to-init
-loop-to-init c = (c.requires.0, l.begin c.args.at c.requires.1)
+pub loop-u-init : goal.loop-u-init
+loop-u-init c = rw c.into_iter-u-iterator.ensures.into_iter_gives (λ h. c.requires, l.begin c.args.list.now)
 
-pub list_alone-requires : goal.list_alone-requires
-list_alone-requires c = l.so_far c.loop-to.invariant.1
-
-pub returns-in_default : goal.returns-in_default
-returns-in_default c =
-    let o = c.loop-to in
+pub loop-u-preserved : goal.loop-u-preserved
+loop-u-preserved c =
+    let went = c.in-Some.ensures.steps in
+    let same = c.match-next-2.same in
     let group = c.args.group in
-    let left = channels_left o.c in
-    let right = channels_left o.d in
-    l.finish o.invariant.1 (l.listed_as c.list_alone.ensures (ap (λ k. alone 3 group (k + 1) right) (sym o.invariant.0) ∙ sym (none_left group (o.c.index + 1) left right c.in_default.ensures)))
-
-pub list_alone-requires-in_default-next : goal.list_alone-requires-in_default-next
-list_alone-requires-in_default-next c = l.so_far c.loop-to.invariant.1
-
-pub returns-in_default-next : goal.returns-in_default-next
-returns-in_default-next c =
-    let o = c.loop-to in
-    l.finish o.invariant.1 (l.listed_as c.list_alone-in_default-next.ensures (sym (none_right c.args.group (o.c.index + 1) (channels_left o.c) (channels_left o.d) c.in_default-next.ensures)))
-
-pub list_unless-to-requires : goal.list_unless-to-requires
-list_unless-to-requires c = l.so_far c.loop-to.invariant.1
-
-pub loop-to-smaller : goal.loop-to-smaller
-loop-to-smaller c = omega (arith, ap length c.in-Some.ensures.4)
-
-pub loop-to-preserved : goal.loop-to-preserved
-loop-to-preserved c =
-    let went = c.in-Some.ensures in
-    let went-too = c.in-Some-next.ensures in
-    let o = c.loop-to in
-    let group = c.args.group in
-    let x = the_channel c.in-Some.u in
-    let y = the_channel c.in-Some-next.v in
-    let i = o.c.index + 1 in
-    let listed = l.listed_as c.list_unless-to.ensures (ap₂ (λ t k. unless t (entry 3 group k 0)) c.same_channel-same.ensures (c.number.ensures ∙ went.6)) in
-    (went.6 ∙ ap (λ k. k + 1) o.invariant.0 ∙ sym went-too.6, l.turn o.invariant.1 (unless (same_channel x y) (entry 3 group i 0)) (both_next group i (c.in-Some.e.index + 1) went.4 went-too.4 (ap (λ k. k + 1) went.6)) listed)
+    let o = c.loop-u in
+    let i = o.u-iterator.index + 1 in
+    let n = c.next.new.self in
+    let on = ap (λ k. k + 1) went.6 in
+    let next : channel_entries group i (channels_left o.u-iterator) (channels_left o.d) ≡ unless same (entry 3 group i 0) ++ channel_entries group (n.index + 1) (channels_left n) (channels_left c.next-in-loop-u.new.self) = elim c.match-next-2.branch [
+      | in-Some-next w ↦ both_next _ _ _ _ went.4 w.in-Some-next.ensures.steps.4 on (w.same-is ∙ w.same_channel-same.ensures)
+      | in-None-next w ↦ next_alone _ _ _ _ went.4 w.in-None-next.ensures.steps.0 (ap channels_left w.in-None-next.ensures.steps.1) on w.same-is
+    ] in
+    let grown = l.grown_as c.unless.ensures (ap (λ k. unless same (entry 3 group (k + 1) 0)) (c.number.ensures.0 ∙ went.5)) in (
+      still_abreast o.u-iterator n o.d c.next-in-loop-u.new.self c.in-Some.u c.next-in-loop-u.result went c.next-in-loop-u.ensures.steps o.invariant.0,
+      l.turn o.invariant.1 (unless same (entry 3 group i 0)) next grown,
+    )
 
 pub returns : goal.returns
-returns c = l.stop c.loop-to.invariant.1 c.loop-to-test.false
+returns c =
+    let o = c.loop-u in
+    l.finish o.invariant.1 (l.grown_as c.list_alone.ensures (rest_alone _ _ _ _ _ c.in-None.ensures.steps.0 o.invariant.0))

@@ -1,14 +1,10 @@
-use Rattle.listing.specs.Listing.{Listing}
+use Rattle.listing.specs.Growing.{Listing}
 use Rattle.answers.specs.Differences.{channel_entries}
 use Rattle.reading.specs.Steps.{channels_left}
+use Rattle.list_channels.proofs.Channels.{Abreast}
 use Prim.Native.Nat.{◌+◌}
-use lib.ListN.{length}
-use mathlib.Core.Path.{◌≡◌}
 use Rattle.list_channels.proofs.list_channels.Given as goal
 
-abbrev pub invariant-loop-to : goal.invariant-loop-to
-invariant-loop-to l =
-    (l.c.index ≡ l.d.index) × Listing (channel_entries l.group (l.initial.c.index + 1) (channels_left l.initial.c) (channels_left l.initial.d)) l.initial.out l.out l.at l.to (channel_entries l.group (l.c.index + 1) (channels_left l.c) (channels_left l.d))
-
-abbrev pub decreases-loop-to : goal.decreases-loop-to
-decreases-loop-to l = length (channels_left l.c)
+abbrev pub invariant-loop-u : goal.invariant-loop-u
+invariant-loop-u l =
+    Abreast l.u-iterator l.d × Listing (channel_entries l.group (l.initial.x.index + 1) (channels_left l.initial.x) (channels_left l.fn.y)) l.initial.list l.list (channel_entries l.group (l.u-iterator.index + 1) (channels_left l.u-iterator) (channels_left l.d))

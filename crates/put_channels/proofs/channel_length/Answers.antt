@@ -1,11 +1,11 @@
-use Rattle.put_channels.proofs.Channels.{small_bodies, places_by}
+use Rattle.put_channels.proofs.Channels.{layout_end}
+use Rattle.answers.specs.Copies.{channel_length}
 use native.Mathlib.Omega.{arith}
+use mathlib.Core.Path.{ap}
 use Rattle.put_channels.proofs.channel_length.Goals as goal
-
-pub places_of-requires : goal.places_of-requires
-places_of-requires c = (small_bodies _ _ c.bodies_of.ensures, omega arith)
 
 pub returns : goal.returns
 returns c =
-    let q = places_by _ _ c.bodies_of.ensures 0 _ c.places_of.ensures in
-    (omega (arith, q.end), omega (arith, c.places_of.ensures.near))
+    let l = c.of.result in
+    let e = c.of.ensures in
+    (omega (arith, layout_end l, e.0, ap channel_length e.1), omega (arith, l.placed.near, e.0))

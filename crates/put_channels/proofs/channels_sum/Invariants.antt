@@ -6,7 +6,4 @@ use mathlib.Core.Path.{◌≡◌}
 use Rattle.put_channels.proofs.channels_sum.Given as goal
 
 abbrev pub invariant-loop-x : goal.invariant-loop-x
-invariant-loop-x l = (l.sum ≤ 2147483647) × (l.count ≤ l.sum) × (l.sum + channels_length (channels_left l.c) ≡ channels_length (channels_left l.initial.c)) × (l.count + length (channels_left l.c) ≡ length (channels_left l.initial.c))
-
-abbrev pub decreases-loop-x : goal.decreases-loop-x
-decreases-loop-x l = length (channels_left l.c)
+invariant-loop-x l = (l.sum.length ≤ 2147483647) × (l.sum.count ≤ l.sum.length) × (l.sum.length + channels_length (channels_left l.x-iterator) ≡ channels_length (channels_left l.initial.channels)) × (l.sum.count + length (channels_left l.x-iterator) ≡ length (channels_left l.initial.channels))

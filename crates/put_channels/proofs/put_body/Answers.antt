@@ -1,15 +1,9 @@
 use Rattle.write.specs.Write.{wrote_none}
 use Rattle.blocks.specs.Blocks.{block_bytes}
-use native.Mathlib.Omega.{arith}
 use Rattle.put_channels.proofs.put_body.Goals as goal
 
 pub returns-in_default : goal.returns-in_default
 returns-in_default g c = rw c.in_default.is wrote_none
-
-pub put_block-requires : goal.put_block-requires
-put_block-requires g c =
-    let p = rw c.in-Some.is at c.requires in
-    omega (arith, p)
 
 pub returns-in-Some : goal.returns-in-Some
 unfolding block_bytes

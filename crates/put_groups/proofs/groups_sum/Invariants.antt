@@ -6,7 +6,4 @@ use mathlib.Core.Path.{◌≡◌}
 use Rattle.put_groups.proofs.groups_sum.Given as goal
 
 abbrev pub invariant-loop-g : goal.invariant-loop-g
-invariant-loop-g l = (l.sum ≤ 2147483647) × (l.count ≤ l.sum) × (l.sum + groups_length (groups_left l.c) ≡ l.initial.sum + groups_length (groups_left l.initial.c)) × (l.count + length (groups_left l.c) ≡ length (groups_left l.initial.c))
-
-abbrev pub decreases-loop-g : goal.decreases-loop-g
-decreases-loop-g l = length (groups_left l.c)
+invariant-loop-g l = (l.sum.length ≤ 2147483647) × (l.sum.count ≤ l.sum.length) × (l.sum.length + groups_length (groups_left l.g-iterator) ≡ l.fn.start + groups_length (groups_left l.fn.groups)) × (l.sum.count + length (groups_left l.g-iterator) ≡ length (groups_left l.fn.groups))

@@ -1,61 +1,27 @@
 use Rattle.answers.specs.Copies.{group_length, groups_length}
-use Rattle.reading.specs.Steps.{the_group}
-use Rattle.put_groups.proofs.Groups.{copying_starts, copying_ends, records_end, copying_keys, copying_turn}
-use Prim.Native.Nat.{ℕ, ◌+◌}
-use lib.ListN.{length}
-use mathlib.Core.Path.{◌≡◌, refl, ◌∙◌, ap}
+use Rattle.put_channels.proofs.Written.{link_by}
+use Rattle.put_groups.proofs.Groups.{copying_starts, copying_ends, records_here, copying_turn}
+use mathlib.Core.Path.{refl, ◌∙◌, ap}
 use native.Mathlib.Omega.{arith}
 use Rattle.put_groups.proofs.put_groups.Goals as goal
 
 pub loop-g-init : goal.loop-g-init
-loop-g-init c = (refl, refl, refl, c.requires.1, copying_starts c.args.groups c.requires.0)
+loop-g-init c = (refl, refl, c.requires.1, copying_starts c.args.groups c.requires.0)
 
 pub returns : goal.returns
-returns c = copying_ends c.args.groups c.loop-g.c c.loop-g.invariant.4 c.in_default.ensures
-
-pub group_length-requires : goal.group_length-requires
-group_length-requires c = c.channels_of-sum.ensures
-
-pub overflow_add-end : goal.overflow_add-end
-overflow_add-end c =
-    let went = c.in-Some.ensures in
-    let exact : c.group_length.result ≡ group_length (the_group c.in-Some.g) = c.group_length.ensures.0.exact (omega (arith, ap groups_length went.3, c.loop-g.invariant.3)) in
-    let l = c.loop-g in
-    omega (arith, exact, l.invariant.2, ap groups_length went.3, c.requires.2, c.well_formed)
-
-pub put_blocks-records-requires : goal.put_blocks-records-requires
-put_blocks-records-requires c =
-    let went = c.in-Some.ensures in
-    let l = c.loop-g in
-    (c.channels_of-sum.ensures, omega (arith, ap groups_length went.3, l.invariant.3), omega (arith, l.invariant.2, ap groups_length went.3, c.requires.2, l.invariant.0))
+returns c = copying_ends c.args.groups c.loop-g.c _ c.loop-g.invariant.3 c.in_default.ensures.steps
 
 pub put_records-requires : goal.put_records-requires
 put_records-requires c =
-    let went = c.in-Some.ensures in
-    let end : ℕ = c.loop-g.to + c.group_length.result in
-    let exact : c.group_length.result ≡ group_length (the_group c.in-Some.g) = c.group_length.ensures.0.exact (omega (arith, ap groups_length went.3, c.loop-g.invariant.3)) in
-    let ending : end ≡ c.loop-g.to + group_length (the_group c.in-Some.g) = ap (λ k. c.loop-g.to + k) exact in
-    let l = c.loop-g in
-    let b = rw c.groups_link-next.ensures at c.put_blocks-records.ensures.0 in
-    let q = rw c.groups_link-next.ensures at c.put_blocks-records.ensures.1 in
-    let r = records_end c.args.groups l.c c.in-Some.g c.in-Some.n went _ _ _ end _ _ _ _ l.invariant.4 ending b q in
-    (omega (arith, r, ending, c.put_blocks-records.auto.out, l.invariant.0, l.invariant.2, ap groups_length went.3, c.requires.2), l.invariant.1, copying_keys c.args.groups l.c c.in-Some.g c.in-Some.n went _ _ _ end _ _ _ _ l.invariant.4 ending b q)
-
-pub loop-g-smaller : goal.loop-g-smaller
-loop-g-smaller c = omega (arith, ap length c.in-Some.ensures.3)
+    let inv = c.loop-g.invariant in
+    let went = c.in-Some.ensures.steps in
+    let here = records_here inv.3 inv.2 _ _ went c.of-layout.result c.of-layout.ensures _ c.length.ensures.0 _ _ c.next-in-Some.ensures.steps (link_by _ c.link_if-next.ensures c.is_some.ensures) c.put_blocks.ensures c.records-records.ensures.0 in
+    (omega (arith, here.0, c.length.ensures.0.exact, ap group_length c.of-layout.ensures.1, c.put_blocks.auto.out, inv.0, inv.1, inv.2, ap groups_length went.3, c.requires.2), here.1)
 
 pub loop-g-preserved : goal.loop-g-preserved
 loop-g-preserved c =
-    let went = c.in-Some.ensures in
-    let end : ℕ = c.loop-g.to + c.group_length.result in
-    let exact : c.group_length.result ≡ group_length (the_group c.in-Some.g) = c.group_length.ensures.0.exact (omega (arith, ap groups_length went.3, c.loop-g.invariant.3)) in
-    let ending : end ≡ c.loop-g.to + group_length (the_group c.in-Some.g) = ap (λ k. c.loop-g.to + k) exact in
-    let l = c.loop-g in
-    let b = rw c.groups_link-next.ensures at c.put_blocks-records.ensures.0 in
-    let q = rw c.groups_link-next.ensures at c.put_blocks-records.ensures.1 in (
-      c.put_records.auto.out ∙ c.put_blocks-records.auto.out ∙ l.invariant.0,
-      c.put_records.auto.places ∙ l.invariant.1,
-      omega (arith, l.invariant.2, ap groups_length went.3, ending),
-      omega (arith, ap groups_length went.3, l.invariant.3),
-      copying_turn c.args.groups l.c c.in-Some.g c.in-Some.n went _ _ _ end _ _ _ _ l.invariant.4 ending b q c.put_records.ensures,
-    )
+    let inv = c.loop-g.invariant in
+    let went = c.in-Some.ensures.steps in
+    let sum = ap groups_length went.3 in
+    let turn = copying_turn inv.3 inv.2 _ _ went c.of-layout.result c.of-layout.ensures _ c.length.ensures.0 _ _ c.next-in-Some.ensures.steps (link_by _ c.link_if-next.ensures c.is_some.ensures) c.put_blocks.ensures c.records-records.ensures.0 c.put_records.ensures in
+    (c.put_records.auto.out ∙ c.put_blocks.auto.out ∙ inv.0, omega (arith, inv.1, inv.2, sum, c.length.ensures.0.exact, ap group_length c.of-layout.ensures.1), omega (arith, sum, inv.2), turn)

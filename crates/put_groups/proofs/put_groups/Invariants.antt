@@ -9,7 +9,6 @@ use Rattle.put_groups.proofs.put_groups.Given as goal
 abbrev pub invariant-loop-g : goal.invariant-loop-g
 invariant-loop-g l =
     (length l.out ≡ length l.initial.out)
-    × (length l.places ≡ 256)
     × (l.to + groups_length (groups_left l.c) ≡ l.at + groups_length (groups_left l.initial.c))
     × (groups_length (groups_left l.c) ≤ 2147483647)
     × Copying l.initial.c l.c l.at l.to l.places l.initial.out l.out

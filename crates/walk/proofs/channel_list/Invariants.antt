@@ -10,7 +10,7 @@ invariant-loop-c l =
     × (l.c.cgs ≡ l.initial.c.cgs)
     × (l.initial.c.cns ≤ l.c.cns)
     × (l.c.cns ≤ 16384)
-    × (channels_from (image_of l.image) l.size l.initial.c.field l.initial.c.link l.initial.c.cns ≡ channels_from (image_of l.image) l.size l.c.field l.c.link l.c.cns)
+    × (channels_from (image_of l.image) l.size l.initial.c.link.field l.initial.c.link.to l.initial.c.cns ≡ channels_from (image_of l.image) l.size l.c.link.field l.c.link.to l.c.cns)
 
 abbrev pub decreases-loop-c : goal.decreases-loop-c
 decreases-loop-c l = 16384 - l.c.cns

@@ -13,21 +13,16 @@ returns-in_err-group_head c =
 pub returns-in_err-d : goal.returns-in_err-d
 returns-in_err-d c =
     let down = c.down-first.ensures in
-    let met = rw (c.u16_in.ensures.0, down.0, down.1, down.4, c.u32_in.ensures.0, c.in_err-d.was) at c.channel_list.ensures.0 in
+    let met = rw (c.u16.ensures.0, down.0, down.1, down.4, c.link.ensures, c.in_err-d.was) at c.channel_list.ensures.0 in
     let p = err_from_is_err_and c.from_residual-in_err-d.result c.from_residual-in_err-d.ensures.1 in
     rw (p.1, p.2) (met ∙ group_go _ _ _ _ _ c.group_head.ensures c.in_ok-group_head.was, tt)
-
-pub past_cg-requires : goal.past_cg-requires
-past_cg-requires c =
-    let only = rw c.in_ok-d.was at c.channel_list.ensures.1 in
-    omega (arith, only.1, c.down-first.ensures.3, c.requires.1)
 
 pub returns : goal.returns
 returns c =
     let down = c.down-first.ensures in
     let past = c.past_cg.ensures in
     let only = rw c.in_ok-d.was at c.channel_list.ensures.1 in
-    let met = rw (c.u16_in.ensures.0, down.0, down.1, down.4, c.u32_in.ensures.0, c.in_ok-d.was) at c.channel_list.ensures.0 in (
+    let met = rw (c.u16.ensures.0, down.0, down.1, down.4, c.link.ensures, c.in_ok-d.was) at c.channel_list.ensures.0 in (
       ap accepted past.4 ∙ met ∙ group_go _ _ _ _ _ c.group_head.ensures c.in_ok-group_head.was,
-      (past.0, past.1 ∙ c.u32_in-2.ensures.0, past.2 ∙ only.0 ∙ down.2, omega (arith, past.3, only.1, down.3), omega (arith, past.4, only.3)),
+      (rw c.link-2.ensures at past.0, rw c.link-2.ensures at past.1, past.2 ∙ only.0 ∙ down.2, omega (arith, past.3, only.1, down.3), omega (arith, past.4, only.3)),
     )

@@ -12,7 +12,7 @@ invariant-loop-c l =
     × (l.initial.c.cgs ≤ l.c.cgs)
     × (l.c.cgs ≤ 1024)
     × (l.c.cns ≤ 16384)
-    × Listing (image_of l.image) l.mode l.initial.c.field l.initial.c.link l.initial.c.cgs l.initial.c.cns l.slots (l.c.cgs - l.initial.c.cgs) l.c.field l.c.link l.c.cgs l.c.cns
+    × Listing (image_of l.image) l.mode l.initial.c.link.field l.initial.c.link.to l.initial.c.cgs l.initial.c.cns l.slots (l.c.cgs - l.initial.c.cgs) l.c.link.field l.c.link.to l.c.cgs l.c.cns
 
 abbrev pub decreases-loop-c : goal.decreases-loop-c
 decreases-loop-c l = 1024 - l.c.cgs

@@ -9,8 +9,8 @@ use Rattle.walk.proofs.known.Goals as goal
 
 pub returns : goal.returns
 returns c =
-    let id = c.u16_in-id.result in
+    let id = c.u16-id.result in
     let slots = c.args.slots.now in
-    rw (← c.u16_in-id.ensures.0)
+    rw (← c.u16-id.ensures.0)
     (any_from_yields_List (λ (s : Slot). eqb id s.id) _ _ _ c.any.ensures.ran (YieldsList-from_slice slots cc) (λ x b q k. search (rules, tests))
     ∙ elem_any id slots)

@@ -1,7 +1,7 @@
 use Rattle.std.proofs.lemmas.Result.{err_from_is_err_and}
-use mathlib.Core.Path.{refl, sym, ◌∙◌}
+use mathlib.Core.Path.{refl}
 use Rattle.spec.specs.Block.{hd_kind}
-use Rattle.image.proofs.Blocks.{stands}
+use Rattle.image.proofs.Blocks.{seen_shut, opened_stands}
 use Rattle.position.proofs.Files.{header_opens, file_stands, file_accepted, rejected_reading}
 use Rattle.reading.proofs.seeking.open.Goals as goal
 
@@ -14,15 +14,15 @@ returns-in_err-check c =
 pub returns-in_default : goal.returns-in_default
 returns-in_default c =
     let e = rw c.in_ok-check.was at c.check.ensures in
-    absurd (header_opens _ e (sym c.in_default.is ∙ c.open-opened.ensures))
+    absurd (header_opens _ e (seen_shut (λ b. b.span) c.open-opened.ensures.0 c.in_default.is))
 
 pub invariant_of-result-clause-stands : goal.invariant_of-result-clause-stands
 invariant_of-result-clause-stands c =
     let e = rw c.in_ok-check.was at c.check.ensures in
-    ∣ file_stands _ e _ (stands hd_kind _ _ _ (sym c.in-Open.is ∙ c.open-opened.ensures)) ∣₁
+    ∣ file_stands _ e _ (opened_stands hd_kind _ _ (λ b. b.span) c.open-opened.ensures.0 c.in-Open.is) ∣₁
 
 pub returns : goal.returns
 returns c =
     let e = rw c.in_ok-check.was at c.check.ensures in
-    let f = file_stands _ e _ (stands hd_kind _ _ _ (sym c.in-Open.is ∙ c.open-opened.ensures)) in
+    let f = file_stands _ e _ (opened_stands hd_kind _ _ (λ b. b.span) c.open-opened.ensures.0 c.in-Open.is) in
     (e, (refl, file_accepted _ _ f))
