@@ -72,6 +72,18 @@ impl Signed {
         Signed { width, bits }
     }
 
+    pub fn width(self) -> usize
+        ensures { result ≡ self.width }
+    {
+        self.width
+    }
+
+    pub fn bits(self) -> u64
+        ensures { result ≡ self.bits }
+    {
+        self.bits
+    }
+
     pub fn value(self) -> i64
         ensures { result ≡ signed_of self.width self.bits }
     {

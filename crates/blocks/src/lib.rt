@@ -146,6 +146,14 @@ pub fn put_block<K: Kind>(out: &mut [u8], at: usize, body: &[u8])
     requires { at + 4 + length body.now ≤ length out.old }
     ensures { Wrote out.old out.new at (block_bytes (kind_of K.ID K.LEAST) body.now) }
 {
-    put_block_head(out, at, K::ID, 4 + body.len());
+    put_block_of(out, at, K::ID, body);
+}
+
+// The same with any identifier, which may be known only when the program runs.
+pub fn put_block_of(out: &mut [u8], at: usize, id: [u8; 2], body: &[u8])
+    requires { at + 4 + length body.now ≤ length out.old }
+    ensures { Wrote out.old out.new at (block_bytes (kind_of id 4) body.now) }
+{
+    put_block_head(out, at, id, 4 + body.len());
     write::put_all(out, at + 4, body);
 }

@@ -1,12 +1,13 @@
 -- What the functions on blocks give, as the definitions of `spec` say it.
 -- Assumes nothing.
-use Rattle.std.specs.Prelude.{ℕ, ◌+◌, ◌≤◌, ◌&&◌, cond, List, leb, length, get_or, take, drop}
+use Rattle.std.specs.Prelude.{ℕ, ◌+◌, ◌≤◌, ◌&&◌, cond, List, Option, Some, None, leb, length, get_or, take, drop}
 use Rattle.spec.specs.Bytes.{same_bytes, number, field}
 use Rattle.spec.specs.Answer.{Answer, refused, accepted}
 use Rattle.spec.specs.Block.{Kind, Opened, finalized, unfinalized}
 use Rattle.image.specs.declared.Span.{Span}
 use Rattle.image.specs.declared.Block.{Block}
 use Rattle.image.specs.declared.Block.TheVariants.{Open, Shut}
+use Rattle.refusal.specs.declared.Reason.{Reason}
 use Rattle.refusal.specs.declared.Reason.TheVariants.{NoMdf, Unfinalized}
 use Rattle.refusal.specs.Refused.{reason_of}
 
@@ -22,6 +23,11 @@ kind_of id least = record { first = get_or id 0 0; second = get_or id 1 0; least
 abbrev pub block_of : ℕ → Answer (List ℕ) → Block Span
 block_of at (refused n p) = Shut (reason_of n)
 block_of at (accepted block) = Open (record { at = at; size = length block })
+
+-- why a block is shut; nothing of one that is open
+abbrev pub fault_of : {A : Type 0} → Block A → Option Reason
+fault_of (Open b) = None
+fault_of (Shut r) = Some r
 
 -- a block by what is seen of it where it is open
 abbrev pub seen : {A B : Type 0} → Block A → (A → B) → Block B

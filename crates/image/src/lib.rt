@@ -2,14 +2,14 @@
 #![tactic(auto)]
 
 ghost use Rattle.std.specs.Prelude.{◌≡◌, ℕ, ◌+◌, ◌^◌, ◌≤◌, ◌<◌, List, [], ◌∷◌, length, get_or};
-ghost use Rattle.spec.specs.Bytes.{u16, u32, u64, to_link};
+ghost use Rattle.spec.specs.Bytes.{number, u16, u32, u64, to_link};
 ghost use Rattle.spec.specs.Answer.{passed};
 ghost use Rattle.spec.specs.Block.{image_of, opening, body_at};
 ghost use Rattle.refusal.specs.Refused.{done};
 ghost use Rattle.refusal.specs.declared.Reason.{Reason};
 ghost use Rattle.image.specs.declared.Block.TheVariants.{Shut};
 ghost use Rattle.image.specs.Heads.{holds_head};
-ghost use Rattle.image.specs.Spans.{number_at, kind_of, block_of, seen, IfOpen, IsShut, block_in, Inside, Holds, field_number, ident_block};
+ghost use Rattle.image.specs.Spans.{number_at, kind_of, block_of, fault_of, seen, IfOpen, IsShut, block_in, Inside, Holds, field_number, ident_block};
 
 use refusal::{Reason, Refusal};
 use std::alloc::AllocError;
@@ -26,6 +26,18 @@ pub fn byte(image: &[u8], at: usize) -> u64
     }
 }
 
+// The number that some bytes make, the lowest first.
+fn number_of(bytes: &[u8]) -> u64
+    requires { length bytes.now ≤ 8 }
+    ensures { (result ≡ number bytes.now) × (result < 256 ^ length bytes.now) }
+{
+    let mut v: u64 = 0;
+    for x in bytes.iter().rev() {
+        v = v * 256 + u64::from(*x);
+    }
+    v
+}
+
 // The number of n bytes, the lowest first.
 pub fn number(image: &[u8], at: usize, n: usize) -> u64
     requires { n ≤ 8 }
@@ -34,12 +46,15 @@ pub fn number(image: &[u8], at: usize, n: usize) -> u64
     let Some(rest) = image.get(at..) else {
         return 0;
     };
-    let held = &rest[..n.min(rest.len())];
-    let mut v: u64 = 0;
-    for x in held.iter().rev() {
-        v = v * 256 + u64::from(*x);
-    }
-    v
+    number_of(&rest[..n.min(rest.len())])
+}
+
+// The same where all of them are there. Most callers know that, and how many they are: then no loop is left.
+fn held(image: &[u8], at: usize, n: usize) -> u64
+    requires { (n ≤ 8) × (at + n ≤ length image.now) }
+    ensures { (result ≡ number_at image.now at n) × (result < 256 ^ n) }
+{
+    number_of(&image[at..at + n])
 }
 
 // The version that ID gives; 0 where the image does not hold it whole. `as` from `u64`, here and below: the library has no `From` to `usize`.
@@ -49,7 +64,7 @@ pub fn version(image: &[u8]) -> usize
     if image.len() < 30 {
         return 0;
     }
-    number(image, 28, 2) as usize
+    held(image, 28, 2) as usize
 }
 
 // ---- blocks
@@ -91,6 +106,16 @@ pub enum Block<B> {
 }
 
 impl<B: Copy> Block<B> {
+    // Why it is shut; nothing of one that is open.
+    pub fn fault(self) -> Option<Reason>
+        ensures { result ≡ fault_of self }
+    {
+        match self {
+            Block::Open(_b) => None,
+            Block::Shut(reason) => Some(reason),
+        }
+    }
+
     // The refusal of a block that is shut, at the field of the link that leads to it.
     pub fn refused(self, field: usize) -> Refusal
         requires { IsShut self }
@@ -120,7 +145,7 @@ fn open_block(image: &[u8], at: usize, id: [u8; 2], least: usize) -> Block<Span>
     if !image[at..].starts_with(&id) {
         return Block::Shut(Reason::BlockIdentifier);
     }
-    let size = number(image, at + 2, 2) as usize;
+    let size = held(image, at + 2, 2) as usize;
     if size < least {
         return Block::Shut(Reason::BlockSize);
     }
@@ -141,7 +166,7 @@ fn number_in(image: &[u8], b: Span, offset: usize, n: usize) -> u64
         return 0;
     }
     let at = b.at;
-    number(image, at + offset, n)
+    held(image, at + offset, n)
 }
 
 // One for each width, as the definitions have.
@@ -406,7 +431,6 @@ impl Id {
 
     pub const LEAST: usize = 64;
 
-    // Nothing writes by it, for the block is copied whole; each kind of block names the size that is written.
     pub const WRITTEN: usize = 64;
 
     pub fn open(image: &[u8]) -> Block<Span>

@@ -14,6 +14,10 @@ fn list_alone(list: &mut List, channels: Channels, group: usize)
     ensures { Grown list.old list.new (alone 3 group (channels.entry.index + 1) (channels_left channels.entry)) }
 {
     for x in channels {
+        // only saves time, here and below: what is still to come does not matter
+        if list.length.is_too_long() {
+            return;
+        }
         list.entry(EntryKind::GroupPart as usize, group, x.number() + 1, 0);
     }
 }
@@ -25,6 +29,9 @@ pub fn list_channels(list: &mut List, x: Channels, y: Channels, group: usize)
 {
     let mut d = y;
     for u in x {
+        if list.length.is_too_long() {
+            return;
+        }
         // where the second has no more, the channel is one that differs
         let same = match d.next() {
             Some(v) => same_parts::same_channel(u, v),

@@ -27,6 +27,10 @@ fn list_alone(list: &mut List, groups: Groups)
     ensures { Grown list.old list.new (groups_alone groups.entry.index (groups_left groups.entry)) }
 {
     for g in groups {
+        // only saves time: what is still to come does not matter
+        if list.length.is_too_long() {
+            return;
+        }
         list.entry(EntryKind::GroupAlone as usize, g.number(), 0, 0);
     }
 }

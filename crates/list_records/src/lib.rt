@@ -40,8 +40,8 @@ pub fn list_records(list: &mut List, g: Group, h: Group, group: usize)
 {
     let sizes = g.sizes();
     let others = h.sizes();
-    let x = g.series(&sizes);
-    let y = h.series(&others);
+    let x = g.series(&sizes.by_key);
+    let y = h.series(&others.by_key);
     let n = g.count();
     let m = h.count();
     list_common(list, x, y, group);

@@ -1,12 +1,12 @@
 mod Asked
 mod Bodies
 pub mod Formed
-mod Going
+pub mod Going
 mod Later
 pub mod Numbers
 pub mod Promise
 mod RecordSteps
-mod Rows
+pub mod Rows
 mod SeriesSteps
 mod Signals
 mod Standing

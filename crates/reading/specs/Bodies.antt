@@ -25,6 +25,10 @@ pub record PartAt (image bytes : List ℕ) : Type 0 where
   pub inside : place + length bytes ≤ length image
   pub is : bytes ≡ take (length bytes) (drop place image)
 
+-- bytes that stand at this place of an image
+abbrev pub StandsAt : List ℕ → ℕ → List ℕ → Type 0
+StandsAt image at bytes = (at + length bytes ≤ length image) × (bytes ≡ take (length bytes) (drop at image))
+
 abbrev pub PartOf : List ℕ → List ℕ → Type 0
 PartOf image bytes = ∥ PartAt image bytes ∥₁
 

@@ -4,7 +4,6 @@ use Prim.Native.Nat.{ℕ}
 use mathlib.Core.Path.{◌≡◌, refl, sym, ap, ◌∙◌}
 use mathlib.Core.List.{List, [], ◌∷◌}
 use native.Mathlib.Omega.{arith}
-use denote.Ref.{Bor}
 use lib.ListN.{length, take, drop}
 use lib.Seq.{take_at, drop_at}
 use Rattle.std.proofs.Math.Logic.{∥∥₁_elim}
@@ -14,6 +13,7 @@ use Rattle.answers.specs.Readings.{All, join, WellFormedGroup}
 use Rattle.answers.specs.Readings.{Group as ReadGroup}
 use Rattle.reading.specs.declared.Data.TheVariants.{Run}
 use Rattle.reading.specs.declared.Group.{Group}
+use Rattle.reading.specs.declared.Row.{Row}
 use Rattle.reading.specs.Steps.{DataIs, the_group}
 use Rattle.reading.proofs.Promise.{known_bytes, group_well_formed}
 
@@ -32,9 +32,9 @@ pub runs_same : (g h : ReadGroup) → WellFormedGroup g → WellFormedGroup h �
 runs_same g h v w s n e = pieces_same g.record_size g.records h.records v.records (rw s w.records) n e
 
 -- two sorted groups
-pub same_by : (g h : Group) (s t : Bor (List ℕ)) → DataIs g (Run s) → DataIs h (Run t)
+pub same_by : (g h : Group) (s t : Row) → DataIs g (Run s) → DataIs h (Run t)
     → (the_group g).record_size ≡ (the_group h).record_size → length (the_group g).records ≡ length (the_group h).records
-    → s.now ≡ t.now → (the_group g).records ≡ (the_group h).records
+    → s.bytes.now ≡ t.bytes.now → (the_group g).records ≡ (the_group h).records
 same_by g h s t x y size count e =
     ∥∥₁_elim g.stands (hlevel (codes, le_prop)) (λ at.
     ∥∥₁_elim h.stands (hlevel (codes, le_prop)) (λ to.

@@ -10,7 +10,7 @@ use reading::{Data, Group, Log, Unsorted};
 // What is told of two data groups that have the same keys in the same order: by key, whether a record differs. Which two they are stands in the contracts that hand it out, since an invariant speaks of its own fields alone.
 #[derive(Clone, Copy)]
 pub struct Marks {
-    differs: [bool; 256],
+    pub differs: [bool; 256],
 }
 
 // Marks the keys of records that differ. None where the keys or their order are not the same.
@@ -66,7 +66,7 @@ fn same_runs(g: Group, h: Group) -> bool
     let (Data::Run(s), Data::Run(t)) = (g.data(), h.data()) else {
         return false;
     };
-    g.size() == h.size() && g.count() == h.count() && alike::same_part(s, t)
+    g.size() == h.size() && g.count() == h.count() && alike::same_part(s.bytes, t.bytes)
 }
 
 // Whether two groups are known to have the same records.

@@ -1,8 +1,8 @@
 -- Bytes written over a list from a place on, and the laws by which runs of writes compose.
 -- Assumes nothing.
-use Rattle.std.specs.Prelude.{◌≡◌, refl, List, [], ◌∷◌, ◌++◌, ℕ, suc, ◌+◌, ◌-◌, ◌≤◌, length, take, drop, set, replicate}
-use Rattle.std.proofs.Common.{sym, ap, ◌∙◌, append_assoc, add-zero, zero-add, arith}
-use Rattle.std.proofs.lemmas.List.{drop-drop}
+use Rattle.std.specs.Prelude.{◌≡◌, refl, List, [], ◌∷◌, ◌++◌, ℕ, suc, ◌+◌, ◌-◌, ◌≤◌, ◌<◌, length, take, drop, set, get_or, replicate}
+use Rattle.std.proofs.Common.{sym, ap, ◌∙◌, append_assoc, add-zero, zero-add, add-one, arith, length-take, length-drop, take-suc, get_or-drop}
+use Rattle.std.proofs.lemmas.List.{drop-drop, length-replicate, replicate-append-replicate}
 use Rattle.std.proofs.lemmas.List.Edits.{sets, sets-eq}
 use Rattle.std.proofs.Math.Seq.{length-sets}
 
@@ -24,12 +24,31 @@ unfolding write
 write_write d at [] b p e = ap (λ (k : ℕ). sets d k b) (e ∙ add-zero at)
 write_write d at (x ∷ a) b p e = write_write (set d at x) (suc at) a b p (omega arith)
 
+-- one store more
+write_set : (d : List ℕ) (at : ℕ) (a : List ℕ) (x p : ℕ) → p ≡ at + length a → set (write d at a) p x ≡ write d at (a ++ (x ∷ []))
+unfolding write
+write_set d at a x p e = write_write d at a (x ∷ []) p e
+
 -- a run from the first place on: behind its end all is as it was
 pub write_whole : (d bs : List ℕ) → length bs ≤ length d → write d 0 bs ≡ bs ++ drop (length bs) d
 unfolding write
 write_whole d bs h =
     let g : 0 + length bs ≤ length d = omega arith in
     sets-eq bs d 0 g ∙ rw zero-add
+
+-- the turn of a loop that writes a part of a list, and of one that writes zeros
+pub write_part_suc : (d : List ℕ) (at : ℕ) (s : List ℕ) (from i : ℕ) → i < length s - from
+    → set (write d at (take i (drop from s))) (at + i) (get_or s (from + i) 0) ≡ write d at (take (i + 1) (drop from s))
+write_part_suc d at s from i h =
+    let g : i < length (drop from s) = simp length-drop (omega arith) in
+    let e : at + i ≡ at + length (take i (drop from s)) = simp (length-take, length-drop) (omega arith) in
+    let f : take (suc i) (drop from s) ≡ take i (drop from s) ++ (get_or s (from + i) 0 ∷ []) = take-suc (drop from s) i 0 g ∙ rw get_or-drop in
+    write_set d at (take i (drop from s)) (get_or s (from + i) 0) (at + i) e ∙ rw (add-one, f)
+
+pub write_zero_suc : (d : List ℕ) (at i : ℕ) → set (write d at (replicate i 0)) (at + i) 0 ≡ write d at (replicate (i + 1) 0)
+write_zero_suc d at i =
+    let e : at + i ≡ at + length {A = ℕ} (replicate i 0) = rw length-replicate in
+    write_set d at (replicate i 0) 0 (at + i) e ∙ ap (write d at) (replicate-append-replicate i 1 0)
 
 -- `d₁` is `d` with `bs` written from `at` on. A record, so that a law over it finds its arguments by itself
 pub record Wrote (d d₁ : List ℕ) (at : ℕ) (bs : List ℕ) : Type 0 where

@@ -8,4 +8,4 @@ pub returns-then-b-offset : goal.returns-then-b-offset
 returns-then-b-offset c = (field_cut _ _ c.requires.2 _ _ (omega arith), width_pos _)
 
 pub returns : goal.returns
-returns c = (c.number.ensures.0 ∙ field_held _ _ c.requires.2 _ _ (omega arith), c.number.ensures.1)
+returns c = (c.held.ensures.0 ∙ field_held _ _ c.requires.2 _ _ (omega arith), c.held.ensures.1)

@@ -10,12 +10,12 @@ returns-then-not-starts_with c = other c.args.id _ _ _ (omega arith) (omega (ari
 
 pub returns-then-size-least : goal.returns-then-size-least
 returns-then-size-least c =
-    too_small c.args.id _ _ _ (omega arith) (omega (arith, c.well_formed)) _ c.starts_with.ensures.value c.if-not-starts_with.false _ c.number-size.ensures.0 (omega arith)
+    too_small c.args.id _ _ _ (omega arith) (omega (arith, c.well_formed)) _ c.starts_with.ensures.value c.if-not-starts_with.false _ c.held-size.ensures.0 (omega arith)
 
 pub returns-then-image-at-2 : goal.returns-then-image-at-2
 returns-then-image-at-2 c =
-    too_long c.args.id _ _ _ (omega arith) (omega (arith, c.well_formed)) _ c.starts_with.ensures.value c.if-not-starts_with.false _ c.number-size.ensures.0 (omega arith) (omega arith)
+    too_long c.args.id _ _ _ (omega arith) (omega (arith, c.well_formed)) _ c.starts_with.ensures.value c.if-not-starts_with.false _ c.held-size.ensures.0 (omega arith) (omega arith)
 
 pub returns : goal.returns
 returns c =
-    opens c.args.id _ _ _ (omega arith) (omega (arith, c.well_formed)) _ c.starts_with.ensures.value c.if-not-starts_with.false _ c.number-size.ensures.0 (omega arith) (omega arith)
+    opens c.args.id _ _ _ (omega arith) (omega (arith, c.well_formed)) _ c.starts_with.ensures.value c.if-not-starts_with.false _ c.held-size.ensures.0 (omega arith) (omega arith)

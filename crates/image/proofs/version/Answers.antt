@@ -7,4 +7,4 @@ pub returns-then-image-lt30 : goal.returns-then-image-lt30
 returns-then-image-lt30 c = version_short c.args.image.now (omega arith)
 
 pub returns : goal.returns
-returns c = c.number.ensures.0 ∙ version_long c.args.image.now (omega arith)
+returns c = c.held.ensures.0 ∙ version_long c.args.image.now (omega arith)

@@ -9,6 +9,9 @@ use Rattle.list_channels.proofs.list_alone.Goals as goal
 pub loop-x-init : goal.loop-x-init
 loop-x-init c = rw c.into_iter-x-iterator.ensures.into_iter_gives (l.begin c.args.list.now)
 
+pub returns-then-is_too_long : goal.returns-then-is_too_long
+returns-then-is_too_long c = l.stop c.loop-x.invariant c.is_too_long.ensures c.if-is_too_long.true
+
 pub loop-x-preserved : goal.loop-x-preserved
 loop-x-preserved c =
     let went = c.in-Some.ensures.steps in

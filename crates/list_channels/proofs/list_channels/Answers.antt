@@ -11,6 +11,9 @@ use Rattle.list_channels.proofs.list_channels.Goals.{in-Some-next, in-None-next}
 pub loop-u-init : goal.loop-u-init
 loop-u-init c = rw c.into_iter-u-iterator.ensures.into_iter_gives (λ h. c.requires, l.begin c.args.list.now)
 
+pub returns-then-is_too_long : goal.returns-then-is_too_long
+returns-then-is_too_long c = l.stop c.loop-u.invariant.1 c.is_too_long.ensures c.if-is_too_long.true
+
 pub loop-u-preserved : goal.loop-u-preserved
 loop-u-preserved c =
     let went = c.in-Some.ensures.steps in

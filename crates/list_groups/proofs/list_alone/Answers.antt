@@ -8,6 +8,9 @@ use Rattle.list_groups.proofs.list_alone.Goals as goal
 pub loop-g-init : goal.loop-g-init
 loop-g-init c = rw c.into_iter-g-iterator.ensures.into_iter_gives (l.begin c.args.list.now)
 
+pub returns-then-is_too_long : goal.returns-then-is_too_long
+returns-then-is_too_long c = l.stop c.loop-g.invariant c.is_too_long.ensures c.if-is_too_long.true
+
 pub loop-g-preserved : goal.loop-g-preserved
 loop-g-preserved c =
     let went = c.in-Some.ensures.steps in
