@@ -19,24 +19,41 @@ abbrev pub read_back : List (Bor ℕ) → List ℕ
 read_back ys = reverse (map (λ (x : Bor ℕ). x.now) ys)
 
 -- as many bytes are left and read as there are
-pub read_fits : (left xs : List ℕ) (ys : List (Bor ℕ)) → left ++ read_back ys ≡ xs → length left + length ys ≡ length xs
-read_fits left xs ys e =
+pub read_count : (left xs : List ℕ) (ys : List (Bor ℕ)) → left ++ read_back ys ≡ xs → length left + length ys ≡ length xs
+read_count left xs ys e =
     let m : length (read_back ys) ≡ length ys = rw (length-reverse, length-map) refl in
     let l = length-append left (read_back ys) in
     rw (← e, l, m) refl
 
 -- once none is left
-pub all_read : (left xs : List ℕ) (ys : List (Bor ℕ)) → length left ≡ 0 → left ++ read_back ys ≡ xs → number (read_back ys) ≡ number xs
-all_read [] xs ys z e = ap number e
-all_read (x ∷ left) xs ys z e = absurd (omega arith)
+pub read_whole : (left xs : List ℕ) (ys : List (Bor ℕ)) → length left ≡ 0 → left ++ read_back ys ≡ xs → number (read_back ys) ≡ number xs
+read_whole [] xs ys z e = ap number e
+read_whole (x ∷ left) xs ys z e = absurd (omega arith)
 
 -- as long as a byte is left, the number has room for it
-pub read_small : (left more xs : List ℕ) (x : ℕ) (ys : List (Bor ℕ)) (v : ℕ) → left ≡ more ++ x ∷ []
+pub read_room : (left more xs : List ℕ) (x : ℕ) (ys : List (Bor ℕ)) (v : ℕ) → left ≡ more ++ x ∷ []
     → left ++ read_back ys ≡ xs → length xs ≤ 8 → v < 256 ^ length ys → v < 256 ^ 7
-read_small left more xs x ys v s e h l =
+read_room left more xs x ys v s e h l =
     let p : length left ≡ length more + 1 = rw s (length-append more (x ∷ [])) in
-    let f = read_fits left xs ys e in
+    let f = read_count left xs ys e in
     lt_of_lt_of_le l (pow-le-pow_right (lit< tt) {i = length ys} {j = 7} (omega arith))
+
+-- the same of the n bytes of an image from a place on, as far as they are there
+pub read_fits : (left image : List ℕ) (ys : List (Bor ℕ)) (at n : ℕ) → left ++ read_back ys ≡ take n (drop at image) → length left + length ys ≤ n
+read_fits left image ys at n e =
+    let f = read_count left (take n (drop at image)) ys e in
+    let l = length-take n (drop at image) in
+    omega (arith, f, l)
+
+pub all_read : (left image : List ℕ) (ys : List (Bor ℕ)) (at n : ℕ) → length left ≡ 0 → left ++ read_back ys ≡ take n (drop at image) → number (read_back ys) ≡ number_at image at n
+unfolding number_at
+all_read left image ys at n z e = read_whole left (take n (drop at image)) ys z e
+
+pub read_small : (left more image : List ℕ) (x : ℕ) (ys : List (Bor ℕ)) (at n v : ℕ) → left ≡ more ++ x ∷ []
+    → left ++ read_back ys ≡ take n (drop at image) → n ≤ 8 → v < 256 ^ length ys → v < 256 ^ 7
+read_small left more image x ys at n v s e h l =
+    let m = length-take n (drop at image) in
+    read_room left more (take n (drop at image)) x ys v s e (omega (arith, m)) l
 
 pub width_most : (n k v : ℕ) → k ≤ n → v < 256 ^ k → v < 256 ^ n
 width_most n k v h l = lt_of_lt_of_le l (pow-le-pow_right (lit< tt) {i = k} {j = n} h)
