@@ -1,7 +1,7 @@
 -- Laws of numbers of bytes, over the width.
 -- Assumes nothing.
 use Prim.Native.Nat.{ℕ, zero, suc, ◌+◌, ◌-◌, ◌^◌, ◌≤◌, ◌<◌, min}
-use mathlib.Core.Path.{◌≡◌, refl, sym, ap, ◌∙◌}
+use mathlib.Core.Path.{◌≡◌, refl, ap, ◌∙◌}
 use mathlib.Core.List.{List, [], ◌∷◌, ◌++◌, map, reverse}
 use native.Mathlib.Omega.{arith}
 use native.Mathlib.Nat.{pow-suc, lt_of_lt_of_le, pow-le-pow_right}
@@ -67,7 +67,14 @@ pub width_pos : (n : ℕ) → 0 < 256 ^ n
 width_pos zero = omega arith
 width_pos (suc n) = let p = width_pos n in rw pow-suc (omega arith)
 
--- of n bytes from a place on, as far as they are there
+-- of n bytes from a place on, by those that are there
+number_part : (image : List ℕ) (at n v : ℕ) {part : List ℕ} → part ≡ take n (drop at image) → v ≡ number part → v < 256 ^ length part → (v ≡ number_at image at n) × (v < 256 ^ n)
+unfolding number_at
+number_part image at n v {part} e is small =
+    let l : length part ≤ n = rw (e, length-take) (omega arith) in
+    (is ∙ ap number e, width_most n (length part) v l small)
+
+-- as far as they are there
 module _ (image rest : List ℕ) (at n v : ℕ) {m : ℕ} (r : rest ≡ slice_range image at (length image)) (c : m ≡ min n (length rest)) where
   cut_is : take m rest ≡ take n (drop at image)
   cut_is =
@@ -75,17 +82,11 @@ module _ (image rest : List ℕ) (at n v : ℕ) {m : ℕ} (r : rest ≡ slice_ra
       ap (λ k. take k rest) c ∙ take_min n rest ∙ ap (take n) e
 
   pub number_cut : v ≡ number (take m rest) → v < 256 ^ length (take m rest) → (v ≡ number_at image at n) × (v < 256 ^ n)
-  unfolding number_at
-  number_cut is small =
-      let l : length (take m rest) ≤ n = rw (cut_is, length-take) (omega arith) in
-      (is ∙ ap number cut_is, width_most n (length (take m rest)) v l small)
+  number_cut is small = number_part image at n v cut_is is small
 
 -- and where all are there
 pub number_held : (image : List ℕ) (at n v : ℕ) {part : List ℕ} → part ≡ slice_range image at (at + n) → at + n ≤ length image
     → v ≡ number part → v < 256 ^ length part → (v ≡ number_at image at n) × (v < 256 ^ n)
-unfolding number_at
 number_held image at n v {part} p h is small =
     let m : at + n - at ≡ n = omega arith in
-    let whole : part ≡ take n (drop at image) = p ∙ ap (λ k. take k (drop at image)) m in
-    let l : length part ≤ n = rw (whole, length-take) (omega arith) in
-    (is ∙ ap number whole, width_most n (length part) v l small)
+    number_part image at n v (p ∙ ap (λ k. take k (drop at image)) m) is small
